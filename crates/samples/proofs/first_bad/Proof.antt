@@ -1,0 +1,132 @@
+-- `samples::first_bad` meets its contract. The invariant of both loops: nothing is found yet, and the search from i on finds what the
+-- search from the start finds. Assumes nothing.
+use borrow.Author.Needs.{needs}
+use borrow.Author.Tests.{not-true, not-false}
+use native.Mathlib.Omega.{arith}
+use mathlib.Core.Path.{_≡_, sym, _∙_}
+use mathlib.Core.Bool.{true, false}
+use mathlib.Core.List.{List}
+use Prim.Native.Nat.{ℕ, suc, _+_, _≤_, _<_, _-_}
+use native.Mathlib.Numerals.{add-one}
+use lib.ListN.{length, getD, drop, drop-of-length-le}
+use lib.Seq.{drop-cons}
+use lib.Ieee.{Float, nan}
+use Rattle.samples.specs.Binary32.{finite}
+use Rattle.samples.specs.Search.{firstFrom, firstBad}
+use Rattle.samples.specs.declared.Found.the-variants.{At, Nothing}
+use Rattle.samples.proofs.first_bad.Statement.{statement}
+use Rattle.samples.proofs.first_bad.Tie as tie
+use Rattle.samples.proofs.first_bad.Reads as reads
+use Rattle.samples.proofs.first_bad.Lts as lts
+use Rattle.samples.proofs.is_finite.Reads as is-finite-reads
+use Rattle.samples.proofs.row_end.Reads as row-end-reads
+
+module _ (xs : List Float) (i : ℕ) (h : i < length xs) (so-far : firstFrom i (drop i xs) ≡ firstBad xs) where
+  bad-here : finite (getD xs i nan) ≡ false → At i ≡ firstBad xs
+  bad-here b = sym (rw (drop-cons xs i nan h, b)) ∙ so-far
+
+  good-here : finite (getD xs i nan) ≡ true → firstFrom (i + 1) (drop (i + 1) xs) ≡ firstBad xs
+  good-here b = rw add-one (sym (rw (drop-cons xs i nan h, b)) ∙ so-far)
+
+nothing-left : (xs : List Float) (i : ℕ) → length xs ≤ i → firstFrom i (drop i xs) ≡ firstBad xs → Nothing ≡ firstBad xs
+nothing-left xs i h so-far = sym (rw (drop-of-length-le xs h)) ∙ so-far
+
+abbrev Inv-loop : tie.InvT-loop
+Inv-loop rows row found₀ i₀ end found i =
+    (i₀ ≤ i) × (i ≤ end) × (end ≤ length rows) × (i₀ < end) × (found ≡ Nothing) × (firstFrom i (drop i rows) ≡ firstBad rows)
+
+abbrev μ-loop : tie.MeasureT-loop
+μ-loop rows row found₀ i₀ end found i = end - i
+
+abbrev Inv-rows : tie.InvT-rows
+Inv-rows rows row found₀ i₀ found i = (i ≤ length rows) × (found ≡ Nothing) × (firstFrom i (drop i rows) ≡ firstBad rows)
+
+abbrev μ-rows : tie.MeasureT-rows
+μ-rows rows row found₀ i₀ found i = length rows - i
+
+-- src/lib.rt:146:5
+rows-holds : tie.Need-rows-holds Inv-loop μ-loop Inv-rows μ-rows
+rows-holds c = search needs
+
+-- src/lib.rt:147:13
+row-end-requires : tie.Need-row-end-requires Inv-loop μ-loop Inv-rows μ-rows
+row-end-requires c κs = search needs
+
+-- src/lib.rt:148:9
+loop-holds : tie.Need-loop-holds Inv-loop μ-loop Inv-rows μ-rows
+loop-holds c = search needs
+
+-- src/lib.rt:146:5
+rows-less : tie.Need-rows-less Inv-loop μ-loop Inv-rows μ-rows
+rows-less c = search needs
+
+-- src/lib.rt:146:5
+rows-again : tie.Need-rows-again Inv-loop μ-loop Inv-rows μ-rows
+rows-again c = search needs
+
+-- src/lib.rt:149:27
+mul-is-finite : tie.Need-mul-is-finite Inv-loop μ-loop Inv-rows μ-rows
+mul-is-finite c = search needs
+
+-- src/lib.rt:149:27
+shared-slice-read-is-finite : tie.Need-shared-slice-read-is-finite Inv-loop μ-loop Inv-rows μ-rows
+shared-slice-read-is-finite c = search needs
+
+-- src/lib.rt:149:17
+is-finite-requires : tie.Need-is-finite-requires Inv-loop μ-loop Inv-rows μ-rows
+is-finite-requires c κs = search needs
+
+-- src/lib.rt:153:13
+add-i : tie.Need-add-i Inv-loop μ-loop Inv-rows μ-rows
+add-i c = search needs
+
+-- src/lib.rt:148:9
+loop-less : tie.Need-loop-less Inv-loop μ-loop Inv-rows μ-rows
+loop-less c = search needs
+
+-- src/lib.rt:148:9
+loop-again : tie.Need-loop-again Inv-loop μ-loop Inv-rows μ-rows
+loop-again c =
+    let l = c .before .before .before .before .loop in
+    let e = l .inv in (
+      omega arith,
+      omega arith,
+      e .2,
+      e .3,
+      e .4,
+      good-here _ (l .i) (omega arith) (e .5) (sym (c .before .is-finite .ensures) ∙ not-false _ (c .if1 .left)),
+    )
+
+-- src/lib.rt:141:1
+returns : tie.Need-returns Inv-loop μ-loop Inv-rows μ-rows
+returns c =
+    let e = c .before .rows .inv in
+    e .1 ∙ nothing-left _ (c .before .rows .i) (omega arith) (e .2)
+
+-- src/lib.rt:141:1
+returns-2 : tie.Need-returns-2 Inv-loop μ-loop Inv-rows μ-rows
+returns-2 c =
+    let l = c .before .before .before .before .loop in
+    bad-here _ (l .i) (omega arith) (l .inv .5) (sym (c .before .is-finite .ensures) ∙ not-true _ (c .if1 .taken))
+
+pub first-bad-spec : {M : Type 1} → statement M
+first-bad-spec =
+    tie.close
+    (tie.spec
+    Inv-loop
+    μ-loop
+    Inv-rows
+    μ-rows
+    rows-holds
+    row-end-requires
+    loop-holds
+    rows-less
+    rows-again
+    mul-is-finite
+    shared-slice-read-is-finite
+    is-finite-requires
+    add-i
+    loop-less
+    loop-again
+    returns
+    returns-2)

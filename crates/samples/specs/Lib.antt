@@ -1,0 +1,5 @@
+pub mod Binary32
+pub mod Answers
+pub mod Lists
+pub mod Search
+pub mod Sizes

@@ -1,0 +1,16 @@
+-- "To decide 8 and 9 the rows are searched in order and left at the first bad sample."
+use mathlib.Core.Bool.{cond}
+use mathlib.Core.List.{List, [], _∷_}
+use Prim.Native.Nat.{ℕ, suc}
+use lib.Ieee.{Float}
+use Rattle.samples.specs.Binary32.{finite}
+use Rattle.samples.specs.declared.Found.{Found}
+use Rattle.samples.specs.declared.Found.the-variants.{At, Nothing}
+
+-- the first sample that is not finite, the places counted from k
+abbrev pub firstFrom : ℕ → List Float → Found
+firstFrom k [] = Nothing
+firstFrom k (x ∷ xs) = cond (finite x) (firstFrom (suc k) xs) (At k)
+
+abbrev pub firstBad : List Float → Found
+firstBad xs = firstFrom 0 xs
