@@ -12,7 +12,7 @@ use lib.Seq.{take-all}
 use borrow.Author.Tests.{leb-true, eqb-true}
 use Rattle.samples.specs.declared.Answer.{Answer}
 use Rattle.samples.specs.declared.Answer.the-variants.{Accepted, BadState, BadSize, BadLength, BadIndex, OutOfTurn, BadTime, BadCoefficient, BadSample, NotFinite}
-use Rattle.samples.specs.Answers.{accept, accepted, need, orElse}
+use Rattle.samples.specs.Answers.{accept, accepted, need}
 use Rattle.samples.specs.Lists.{allFrom}
 use Rattle.samples.specs.Sizes.{rateOk, frameOk}
 
@@ -106,7 +106,7 @@ and-true : (a : Bool) → (a && true) ≡ a
 and-true true = refl
 and-true false = refl
 
-and-assoc : (a b c : Bool) → ((a && b) && c) ≡ (a && (b && c))
+pub and-assoc : (a b c : Bool) → ((a && b) && c) ≡ (a && (b && c))
 and-assoc true b c = refl
 and-assoc false b c = refl
 

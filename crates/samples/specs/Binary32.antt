@@ -1,6 +1,6 @@
 -- The words of IEEE 754 binary32 that every definition of the unit is written in: each step is rounded once, to nearest, ties to even.
 use mathlib.Core.Bool.{Bool, true, false}
-use Prim.Native.Nat.{ℕ, zero, suc}
+use Prim.Native.Nat.{zero, suc}
 use lib.Ieee.{Float, nan, inf, fin, binary32, add, sub, mul, div, ofBits}
 
 infixl 65 _⊕_ _⊖_

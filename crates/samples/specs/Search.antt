@@ -1,5 +1,5 @@
 -- "To decide 8 and 9 the rows are searched in order and left at the first bad sample."
-use mathlib.Core.Bool.{cond}
+use mathlib.Core.Bool.{Bool, true, false, cond}
 use mathlib.Core.List.{List, [], _∷_}
 use Prim.Native.Nat.{ℕ, suc}
 use lib.Ieee.{Float}
@@ -14,3 +14,12 @@ firstFrom k (x ∷ xs) = cond (finite x) (firstFrom (suc k) xs) (At k)
 
 abbrev pub firstBad : List Float → Found
 firstBad xs = firstFrom 0 xs
+
+-- whether a search found nothing
+abbrev pub nothing : Found → Bool
+nothing (At k) = false
+nothing Nothing = true
+
+-- no sample is bad
+abbrev pub allFinite : List Float → Bool
+allFinite xs = nothing (firstBad xs)

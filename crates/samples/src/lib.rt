@@ -9,7 +9,7 @@ ghost use Prim.Native.Nat.{_<_, _≤_};
 ghost use lib.ListN.{length, replicate};
 ghost use Rattle.samples.specs.Binary32.{+0, finite, plusZero};
 ghost use Rattle.samples.specs.Answers.{numberOf, indexOf, accepted, need};
-ghost use Rattle.samples.specs.Search.{firstBad};
+ghost use Rattle.samples.specs.Search.{firstBad, nothing, allFinite};
 ghost use Rattle.samples.specs.Sizes.{rateOk, frameOk};
 
 // A position in a ring, or a distance, counted in samples.
@@ -167,6 +167,23 @@ pub fn first_bad(rows: &[f32], row: usize) -> Found
         }
     }
     found
+}
+
+// Whether a search found nothing.
+pub fn is_nothing(f: Found) -> bool
+    ensures { λ r. ⌜ r ≡ nothing f ⌝ }
+{
+    match f {
+        Found::At(_) => false,
+        Found::Nothing => true,
+    }
+}
+
+// Whether every sample is finite, searched as `first_bad` does.
+pub fn all_finite(rows: &[f32], row: usize) -> bool
+    ensures { λ r. ⌜ r ≡ allFinite (now (rows .entry)) ⌝ }
+{
+    is_nothing(first_bad(rows, row))
 }
 
 // Where the row that begins at `at` ends, in rows of `row` samples of `len` in all.

@@ -1,11 +1,10 @@
 -- `samples::clear` meets its contract. The invariant: the first i samples are +0, the rest are as they were. Assumes nothing.
 use borrow.Author.Needs.{needs}
 use native.Mathlib.Omega.{arith}
-use mathlib.Core.Path.{_≡_, refl, _∙_}
+use mathlib.Core.Path.{_≡_, _∙_}
 use mathlib.Core.List.{_++_}
 use Prim.Native.Nat.{_≤_, _-_}
 use lib.ListN.{length, drop, replicate, length-set}
-use denote.Ref.{now}
 use Rattle.samples.specs.Binary32.{+0}
 use Rattle.samples.proofs.Turns.{fill-more, fill-all}
 use Rattle.samples.proofs.clear.Statement.{statement}

@@ -6,7 +6,7 @@ use native.Mathlib.Omega.{arith}
 use mathlib.Core.Path.{_≡_, sym, _∙_}
 use mathlib.Core.Bool.{true, false}
 use mathlib.Core.List.{List}
-use Prim.Native.Nat.{ℕ, suc, _+_, _≤_, _<_, _-_}
+use Prim.Native.Nat.{ℕ, _+_, _≤_, _<_, _-_}
 use native.Mathlib.Numerals.{add-one}
 use lib.ListN.{length, getD, drop, drop-of-length-le}
 use lib.Seq.{drop-cons}
@@ -16,10 +16,6 @@ use Rattle.samples.specs.Search.{firstFrom, firstBad}
 use Rattle.samples.specs.declared.Found.the-variants.{At, Nothing}
 use Rattle.samples.proofs.first_bad.Statement.{statement}
 use Rattle.samples.proofs.first_bad.Tie as tie
-use Rattle.samples.proofs.first_bad.Reads as reads
-use Rattle.samples.proofs.first_bad.Lts as lts
-use Rattle.samples.proofs.is_finite.Reads as is-finite-reads
-use Rattle.samples.proofs.row_end.Reads as row-end-reads
 
 module _ (xs : List Float) (i : ℕ) (h : i < length xs) (so-far : firstFrom i (drop i xs) ≡ firstBad xs) where
   bad-here : finite (getD xs i nan) ≡ false → At i ≡ firstBad xs

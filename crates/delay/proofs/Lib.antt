@@ -1,0 +1,4 @@
+pub mod Views
+pub mod Laws
+pub mod Ends
+pub mod RingLaw

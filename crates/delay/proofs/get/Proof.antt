@@ -1,0 +1,53 @@
+-- `delay::get` meets its contract: what it judged bounds what `read_each` is asked, and its end is one of two. Assumes nothing.
+use borrow.Author.Needs.{needs}
+use native.Mathlib.Omega.{arith}
+use mathlib.Core.Path.{ap}
+use lib.ListN.{length}
+use denote.Ref.{now}
+use Rattle.delay.specs.Calls.{readTo}
+use Rattle.delay.proofs.Laws.{Moves, count-ok}
+use Rattle.delay.proofs.Ends.{granted, refused, done}
+use Rattle.delay.proofs.get.Statement.{statement}
+use Rattle.delay.proofs.get.Tie as tie
+
+judge-count-requires : tie.Need-judge-count-requires
+judge-count-requires c κs = search needs
+
+is-accepted-requires : tie.Need-is-accepted-requires
+is-accepted-requires c κs = search needs
+
+moves : (c : tie.Else1) → let start = c .before .before .before .before .before in Moves (length (now (start .args .ring))) (start .args .c) (length (now (start .args .out)))
+moves c = count-ok _ _ _ (granted (c .before .before .judge-count .ensures) (c .before .is-accepted .ensures) (c .if1 .left))
+
+returns : tie.Need-returns
+returns c = refused (c .before .before .judge-count .ensures) (c .before .is-accepted .ensures) _ _ _ _ (c .if1 .taken)
+
+read-each-requires : tie.Need-read-each-requires
+read-each-requires c κs = let m = moves (c .before .before) in omega (arith, m .ready)
+
+advance-requires : tie.Need-advance-requires
+advance-requires c κs = let m = moves (c .before .before .before .before .before) in omega (arith, m .ready)
+
+same-length : tie.Need-same-length
+same-length c = search needs
+
+returns-2 : tie.Need-returns-2
+returns-2 c =
+    let worked = c .before .before .before in
+    let tested = worked .before .before .before in
+    let start = tested .before .before .before .before .before in
+    done (tested .before .before .judge-count .ensures) (tested .before .is-accepted .ensures) _ _ _ _ (tested .if1 .left)
+    (ap (readTo (start .args .c)) (c .advance .ensures .0))
+    (worked .read-each .ensures)
+
+pub get-spec : {M : Type 1} → statement M
+get-spec =
+    tie.close
+    (tie.spec
+    judge-count-requires
+    is-accepted-requires
+    returns
+    read-each-requires
+    advance-requires
+    same-length
+    returns-2)

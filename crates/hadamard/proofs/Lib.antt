@@ -1,0 +1,5 @@
+pub mod Overs
+pub mod Columns
+pub mod Laws
+pub mod Passes
+pub mod Examples

@@ -1,0 +1,67 @@
+-- `hadamard::mix_sample` meets its contract. Assumes nothing.
+use native.Mathlib.Omega.{arith}
+use borrow.Author.Needs.{needs}
+use mathlib.Core.Path.{_≡_, refl, sym, ap, _∙_}
+use Prim.Native.Nat.{ℕ}
+use lib.ListN.{length}
+use Rattle.samples.specs.declared.Answer.the-variants.{BadLength}
+use Rattle.samples.proofs.Laws.{need-of, is-accepted, accept-no}
+use Rattle.hadamard.specs.Mix.{mixed, quarter, judgedSample}
+use Rattle.hadamard.proofs.Laws.{sixteen}
+use Rattle.hadamard.proofs.mix_sample.Statement.{statement}
+use Rattle.hadamard.proofs.mix_sample.Tie as tie
+
+-- the answer is the judgement's
+judged : (c : tie.After-is-accepted)
+    → c .before .need .result ≡ judgedSample (length (c .before .before .before .before .before .args .x .now)) (length (c .before .before .before .before .before .args .y .now))
+unfolding judgedSample
+judged c = need-of BadLength (c .before .need .ensures) (c .before .before .and .ensures) refl
+
+-- both slices have 16 where it is accepted
+both : (c : tie.Then1) →
+    let a = c .before .before .before .before .before .before .args in
+    (length (a .x .now) ≡ 16) × (length (a .y .now) ≡ 16)
+both c =
+    let s = c .before in
+    sixteen _ _ (sym (judged s) ∙ is-accepted (s .before .need .result) (sym (s .is-accepted .ensures) ∙ c .if1 .taken))
+
+and-requires : tie.Need-and-requires
+and-requires c κs = search needs
+
+need-requires : tie.Need-need-requires
+need-requires c κs = search needs
+
+is-accepted-requires : tie.Need-is-accepted-requires
+is-accepted-requires c κs = search needs
+
+mix-column-requires : tie.Need-mix-column-requires
+mix-column-requires c κs = omega (arith, both (c .before))
+
+same-length : tie.Need-same-length
+same-length c = search needs
+
+returns : tie.Need-returns
+returns c =
+    let t = c .before .before .before .before in
+    let s = t .before in
+    let a = s .before .before .before .before .before .args in
+    let ok = is-accepted (s .before .need .result) (sym (s .is-accepted .ensures) ∙ t .if1 .taken) in
+    (judged s, rw ok (c .before .before .mix-column .ensures ∙ ap (λ (n : ℕ). mixed n quarter (a .x .now)) (both t .0)))
+
+returns-2 : tie.Need-returns-2
+returns-2 c =
+    let s = c .before in
+    let a = s .before .before .before .before .before .args in
+    (judged s, sym (accept-no (s .before .need .result) (mixed 16 quarter (a .x .now)) (a .y .now) (sym (s .is-accepted .ensures) ∙ c .if1 .left)))
+
+pub mix-sample-spec : {M : Type 1} → statement M
+mix-sample-spec =
+    tie.close
+    (tie.spec
+    and-requires
+    need-requires
+    is-accepted-requires
+    mix-column-requires
+    same-length
+    returns
+    returns-2)

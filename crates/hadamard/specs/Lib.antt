@@ -1,0 +1,3 @@
+pub mod Mix
+pub mod Rows
+pub mod Passes

@@ -1,0 +1,177 @@
+// The mix of the lines by the signs of a Hadamard matrix: of one sample of each line, and of rows.
+//
+// Its contracts cite `specs/`: the mix of one sample of n lines, and what it makes of n rows.
+use samples::Answer;
+use samples::and;
+use samples::is_accepted;
+use samples::need;
+ghost use mathlib.Core.Path.{_≡_};
+ghost use Prim.Native.Nat.{_+_, _*_, _/_, _<_, _≤_};
+ghost use lib.ListN.{length};
+ghost use Rattle.samples.specs.Binary32.{_⊕_, _⊖_, _⊗_};
+ghost use Rattle.samples.specs.Answers.{accept};
+ghost use Rattle.samples.specs.Lists.{over};
+ghost use Rattle.hadamard.specs.Mix.{minus, plusMinus, mixAt, mixed, quarter, judgedSample};
+ghost use Rattle.hadamard.specs.Rows.{mixedRow, mixedRows, judgedRows, rowsMixed};
+ghost use Rattle.hadamard.specs.Passes.{laid, pass, summed};
+
+// Whether row r of the mix takes column c with a minus.
+pub fn minus(r: usize, c: usize) -> bool
+    ensures { λ m. ⌜ m ≡ minus r c ⌝ }
+{
+    usize::count_ones(r & c) % 2 == 1
+}
+
+// Mixes one sample of each of sixteen lines.
+pub fn mix_sample(x: &[f32], y: &mut [f32]) -> Answer
+    ensures { λ a. ⌜ a ≡ judgedSample (length (now (x .entry))) (length (now (y .entry))) ⌝ }
+    ensures { λ a. ⌜ now (y .exit) ≡ accept a (mixed 16 quarter (now (x .entry))) (now (y .entry)) ⌝ }
+{
+    let ok = and(x.len() == 16, y.len() == 16);
+    let a = need(ok, Answer::BadLength, Answer::Accepted);
+    if is_accepted(a) {
+        mix_column(x, 0.25, y);
+    }
+    a
+}
+
+// Mixes the rows of all lines, which `rows` begins with, into as many rows after them.
+pub fn mix_rows(lines: usize, factor: f32, rows: &mut [f32]) -> Answer
+    ensures { λ a. ⌜ a ≡ judgedRows lines (length (now (rows .entry))) ⌝ }
+    ensures { λ a. ⌜ now (rows .exit) ≡ accept a (rowsMixed lines factor (now (rows .entry))) (now (rows .entry)) ⌝ }
+{
+    let f = row_length(lines, rows.len());
+    let read = lines * f;
+    let ok = read + read == rows.len();
+    let a = need(ok, Answer::BadLength, Answer::Accepted);
+    if is_accepted(a) {
+        mix_all(rows, lines, f, factor);
+    }
+    a
+}
+
+// The length of a row, where two rows for each line take `len` samples.
+fn row_length(lines: usize, len: usize) -> usize
+    ensures { λ f. ⌜ f ≡ len / (2 * lines) ⌝ }
+{
+    if lines == 0 { 0 } else { len / 2 / lines }
+}
+
+// Mixes one sample of each line, times k.
+fn mix_column(x: &[f32], k: f32, y: &mut [f32])
+    requires { ⌜ (0 < length (now x)) × (length (now y) ≡ length (now x)) ⌝ }
+    ensures { λ _. ⌜ now (y .exit) ≡ mixed (length (now (x .entry))) k (now (x .entry)) ⌝ }
+{
+    for r in 0..x.len() {
+        y[r] = mix_at(x, k, r);
+    }
+}
+
+// Row r of the mix of one sample of each line, times k.
+fn mix_at(x: &[f32], k: f32, r: usize) -> f32
+    requires { ⌜ 0 < length (now x) ⌝ }
+    ensures { λ y. ⌜ y ≡ mixAt k r (now (x .entry)) ⌝ }
+{
+    let mut sum = x[0];
+    for c in 1..x.len() {
+        sum = plus_minus(minus(r, c), sum, x[c]);
+    }
+    sum * k
+}
+
+// A sum with one number more, with a minus or without.
+fn plus_minus(m: bool, sum: f32, x: f32) -> f32
+    ensures { λ s. ⌜ s ≡ plusMinus m sum x ⌝ }
+{
+    if m { sum - x } else { sum + x }
+}
+
+// Mixes the rows of n lines, which w begins with, into the n rows after them, times k.
+fn mix_all(w: &mut [f32], n: usize, f: usize, k: f32)
+    requires { ⌜ n * f + n * f ≤ length (now w) ⌝ }
+    ensures { λ _. ⌜ now (w .exit) ≡ over (n * f) (mixedRows n f k (now (w .entry))) (now (w .entry)) ⌝ }
+{
+    let mut d = n * f;
+    let mut r = 0usize;
+    while r < n {
+        mix_row(w, n, f, k, r, d);
+        d += f;
+        r += 1;
+    }
+}
+
+// Mixes the rows of n lines into row r of the mix, at d, times k.
+fn mix_row(w: &mut [f32], n: usize, f: usize, k: f32, r: usize, d: usize)
+    requires { ⌜ (r < n) × (n * f ≤ d) × (d + f ≤ length (now w)) ⌝ }
+    ensures { λ _. ⌜ now (w .exit) ≡ over d (mixedRow n f k (now (w .entry)) r) (now (w .entry)) ⌝ }
+{
+    copy_row(w, d, 0, f);
+    sum_rows(w, n - 1, f, r, d);
+    scale_row(w, d, f, k);
+}
+
+// Adds the rows 1 to `last` to the row at d, by the signs of row r.
+fn sum_rows(w: &mut [f32], last: usize, f: usize, r: usize, d: usize)
+    requires { ⌜ (last * f + f ≤ d) × (d + f ≤ length (now w)) ⌝ }
+    ensures { λ _. ⌜ now (w .exit) ≡ laid d f (summed r d f last (now (w .entry))) (now (w .entry)) ⌝ }
+{
+    let mut s = 0usize;
+    let mut c = 0usize;
+    while c < last {
+        s += f;
+        c += 1;
+        plus_minus_row(w, minus(r, c), d, s, f);
+    }
+}
+
+// Adds the row at s to the row at d, with a minus or without.
+fn plus_minus_row(w: &mut [f32], m: bool, d: usize, s: usize, f: usize)
+    requires { ⌜ (s + f ≤ d) × (d + f ≤ length (now w)) ⌝ }
+    ensures { λ _. ⌜ now (w .exit) ≡ pass (plusMinus m) d s f (now (w .entry)) ⌝ }
+{
+    if m {
+        subtract_row(w, d, s, f);
+    } else {
+        add_row(w, d, s, f);
+    }
+}
+
+// Copies the row at s to the row at d.
+fn copy_row(w: &mut [f32], d: usize, s: usize, f: usize)
+    requires { ⌜ (s + f ≤ d) × (d + f ≤ length (now w)) ⌝ }
+    ensures { λ _. ⌜ now (w .exit) ≡ pass (λ x y. y) d s f (now (w .entry)) ⌝ }
+{
+    for t in 0..f {
+        w[d + t] = w[s + t];
+    }
+}
+
+// Adds the row at s to the row at d.
+fn add_row(w: &mut [f32], d: usize, s: usize, f: usize)
+    requires { ⌜ (s + f ≤ d) × (d + f ≤ length (now w)) ⌝ }
+    ensures { λ _. ⌜ now (w .exit) ≡ pass _⊕_ d s f (now (w .entry)) ⌝ }
+{
+    for t in 0..f {
+        w[d + t] = w[d + t] + w[s + t];
+    }
+}
+
+// Takes the row at s from the row at d.
+fn subtract_row(w: &mut [f32], d: usize, s: usize, f: usize)
+    requires { ⌜ (s + f ≤ d) × (d + f ≤ length (now w)) ⌝ }
+    ensures { λ _. ⌜ now (w .exit) ≡ pass _⊖_ d s f (now (w .entry)) ⌝ }
+{
+    for t in 0..f {
+        w[d + t] = w[d + t] - w[s + t];
+    }
+}
+
+// Multiplies the row at d by k.
+fn scale_row(w: &mut [f32], d: usize, f: usize, k: f32)
+    requires { ⌜ d + f ≤ length (now w) ⌝ }
+    ensures { λ _. ⌜ now (w .exit) ≡ pass (λ x y. x ⊗ k) d d f (now (w .entry)) ⌝ }
+{
+    for t in 0..f {
+        w[d + t] = w[d + t] * k;
+    }
+}

@@ -1,0 +1,39 @@
+-- `primes::delay_value` meets its contract. Assumes nothing.
+use borrow.Author.Needs.{needs}
+use Prim.Native.Nat.{_<_}
+use Rattle.bands.proofs.Laws.{granted}
+use Rattle.primes.proofs.Laws.{value-yes, value-no, Timed, value-of}
+use Rattle.primes.proofs.delay_value.Statement.{statement}
+use Rattle.primes.proofs.delay_value.Tie as tie
+
+judge-value-requires : tie.Need-judge-value-requires
+judge-value-requires c κs = search needs
+
+is-accepted-requires : tie.Need-is-accepted-requires
+is-accepted-requires c κs = search needs
+
+known : (c : tie.Then1) → let a = c .before .before .before .args in Timed (a .time) (a .rate) × (a .index < 16)
+known c = value-of _ _ _ (granted (c .before .before .judge-value .ensures) (c .before .is-accepted .ensures) (c .if1 .taken))
+
+least-requires : tie.Need-least-requires
+least-requires c κs = let k = known c .0 in (k .time, k .rates .hi)
+
+value-at-requires : tie.Need-value-at-requires
+value-at-requires c κs = (c .least .ensures .1, known (c .before) .1)
+
+returns : tie.Need-returns
+returns c = let b = c .before .before in value-yes (b .before .before .judge-value .ensures) (b .before .is-accepted .ensures) _ _ (b .if1 .taken) (rw (c .before .least .ensures .0) at (c .value-at .ensures))
+
+returns-2 : tie.Need-returns-2
+returns-2 c = value-no (c .before .before .judge-value .ensures) (c .before .is-accepted .ensures) _ (c .if1 .left)
+
+pub delay-value-spec : {M : Type 1} → statement M
+delay-value-spec =
+    tie.close
+    (tie.spec
+    judge-value-requires
+    is-accepted-requires
+    least-requires
+    value-at-requires
+    returns
+    returns-2)

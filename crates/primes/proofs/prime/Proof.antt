@@ -1,0 +1,26 @@
+-- `primes::prime` meets its contract. Assumes nothing.
+use borrow.Author.Needs.{needs}
+use Rattle.bands.proofs.Laws.{granted}
+use Rattle.primes.proofs.Laws.{value-yes, value-no, index-of}
+use Rattle.primes.proofs.prime.Statement.{statement}
+use Rattle.primes.proofs.prime.Tie as tie
+
+judge-index-requires : tie.Need-judge-index-requires
+judge-index-requires c κs = search needs
+
+is-accepted-requires : tie.Need-is-accepted-requires
+is-accepted-requires c κs = search needs
+
+prime-at-requires : tie.Need-prime-at-requires
+prime-at-requires c κs = index-of _ (granted (c .before .before .judge-index .ensures) (c .before .is-accepted .ensures) (c .if1 .taken))
+
+returns : tie.Need-returns
+returns c = let b = c .before in value-yes (b .before .before .judge-index .ensures) (b .before .is-accepted .ensures) _ _ (b .if1 .taken) (c .prime-at .ensures)
+
+returns-2 : tie.Need-returns-2
+returns-2 c = value-no (c .before .before .judge-index .ensures) (c .before .is-accepted .ensures) _ (c .if1 .left)
+
+pub prime-spec : {M : Type 1} → statement M
+prime-spec =
+    tie.close
+    (tie.spec judge-index-requires is-accepted-requires prime-at-requires returns returns-2)
