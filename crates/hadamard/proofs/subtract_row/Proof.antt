@@ -4,6 +4,7 @@ use native.Mathlib.Omega.{arith}
 use mathlib.Core.Path.{_≡_}
 use Prim.Native.Nat.{_≤_, _-_}
 use lib.ListN.{length, length-set}
+use Rattle.samples.specs.Binary32.{_⊖_}
 use Rattle.hadamard.specs.Passes.{pass}
 use Rattle.hadamard.proofs.Passes.{pass-none, pass-more, pass-all}
 use Rattle.hadamard.proofs.subtract_row.Statement.{statement}

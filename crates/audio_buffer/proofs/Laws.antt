@@ -1,0 +1,177 @@
+-- What the judgements tell, how long the lists are, and where each sample lies: interleaving and back is nothing. Assumes nothing.
+use mathlib.Core.Path.{_≡_, refl, sym, ap, _∙_}
+use mathlib.Core.Bool.{true, _&&_}
+use mathlib.Core.List.{List, [], _∷_}
+use Prim.Native.Nat.{ℕ, zero, suc, _+_, _*_, _/_, _%_, _≤_, _<_}
+use native.Mathlib.Nat.{zero-mul, suc-mul, mul-zero, mul-comm, mul-le-mul, div-lt-iff-lt-mul, mod-lt, div-add-mod', not-suc-le-zero, le-of-suc-le-suc}
+use native.Mathlib.Omega.{arith}
+use lib.Dec.{eqb, ltb}
+use lib.ListN.{length, getD, take, drop, replicate, length-append, length-map, length-replicate, List·getD-append}
+use lib.Seq.{getD-drop, getD-append-add, ext-getD}
+use lib.Ieee.{Float, nan}
+use borrow.Author.Tests.{leb-true, ltb-true, eqb-true, le-leb, eq-eqb}
+use Rattle.samples.specs.declared.Answer.{Answer}
+use Rattle.samples.specs.declared.Answer.the-variants.{Accepted, BadLength, BadIndex}
+use Rattle.samples.specs.Binary32.{_⊗_, +0}
+use Rattle.samples.proofs.Laws.{needed, split-and}
+use Rattle.samples.proofs.Turns.{row-ends}
+use Rattle.audio_buffer.specs.Judges.{channelsOk, samplesOk, judgedThen, judgedTwo, judgedDownmix, judgedChannel}
+use Rattle.audio_buffer.specs.Layout.{column, columns, interleaved, deinterleaved}
+use Rattle.audio_buffer.specs.Levels.{scaled, mixed, summed, downmixed}
+
+-- ---- what a judgement tells
+
+pub record Counts (channels samples : ℕ) : Type 0 where
+  pub some : 1 ≤ channels
+  pub few : channels ≤ 16
+  pub short : samples ≤ 65536
+  pub all : channels * samples ≤ 1048576
+
+pub counts-of : (channels samples : ℕ) → (channelsOk channels && samplesOk samples) ≡ true → Counts channels samples
+unfolding channelsOk
+counts-of channels samples e =
+    let p = split-and _ _ e in
+    let q = split-and _ _ (p .0) in
+    let few = leb-true _ _ (q .1) in
+    let short = leb-true _ _ (p .1) in
+    record { some = leb-true _ _ (q .0); few = few; short = short; all = mul-le-mul few short }
+
+pub judged-of : (channels samples length : ℕ) (rest : Answer) → judgedThen channels samples length rest ≡ Accepted
+    → Counts channels samples × (length ≡ channels * samples) × (rest ≡ Accepted)
+unfolding judgedThen
+judged-of channels samples length rest e =
+    let p = needed (channelsOk channels && samplesOk samples) BadIndex _ refl e in
+    let q = needed (eqb length (channels * samples)) BadLength rest refl (p .1) in
+    (counts-of channels samples (p .0), eqb-true _ _ (q .0), q .1)
+
+-- and the other way: a slice of the right length is left to the rest
+pub judged-yes : (channels samples length : ℕ) (rest : Answer) → 1 ≤ channels → channels ≤ 16 → samples ≤ 65536 → length ≡ channels * samples
+    → judgedThen channels samples length rest ≡ rest
+unfolding judgedThen channelsOk
+judged-yes channels samples length rest some few short fills =
+    rw (le-leb 1 channels some, le-leb channels 16 few, le-leb samples 65536 short, eq-eqb length (channels * samples) fills)
+
+pub two-of : (channels samples length other : ℕ) → judgedTwo channels samples length other ≡ Accepted
+    → (length ≡ channels * samples) × (other ≡ channels * samples)
+two-of channels samples length other e =
+    let p = judged-of channels samples length _ e in
+    let q = judged-of channels samples other Accepted (p .2) in
+    (p .1, q .1)
+
+pub downmix-of : (channels samples length output : ℕ) → judgedDownmix channels samples length output ≡ Accepted
+    → (channels ≤ 16) × (length ≡ channels * samples) × (output ≡ samples)
+unfolding judgedDownmix
+downmix-of channels samples length output e =
+    let p = needed (samplesOk samples) BadIndex _ refl e in
+    let q = needed (eqb output samples) BadLength _ refl (p .1) in
+    let r = judged-of channels samples length Accepted (q .1) in
+    (r .0 .few, r .1, eqb-true _ _ (q .0))
+
+-- the channel lies within the buffer
+pub channel-of : (channels samples channel length : ℕ) → judgedChannel channels samples channel length ≡ Accepted
+    → channel * samples + samples ≤ length
+channel-of channels samples channel length e =
+    let p = judged-of channels samples length _ e in
+    let q = needed (ltb channel channels) BadIndex Accepted refl (p .2) in
+    omega (arith, row-ends channel channels samples (ltb-true _ _ (q .0)))
+
+-- ---- layouts
+
+column-length : (row n : ℕ) (xs : List Float) → length (column row n xs) ≡ n
+column-length row zero xs = refl
+column-length row (suc n) xs = ap suc (column-length row n (drop row xs))
+
+columns-length : (row n k : ℕ) (xs : List Float) → length (columns row n k xs) ≡ k * n
+columns-length row n zero xs = sym (zero-mul n)
+columns-length row n (suc k) xs =
+    rw (length-append, column-length, columns-length row n k (drop 1 xs)) (omega (arith, suc-mul k n))
+
+module _ (xs : List Float) where
+  nth : {i j : ℕ} → i ≡ j → getD xs i nan ≡ getD xs j nan
+  nth e = ap (λ (k : ℕ). getD xs k nan) e
+
+column-at : (row n : ℕ) (xs : List Float) (r : ℕ) → r < n → getD (column row n xs) r nan ≡ getD xs (r * row) nan
+column-at row zero xs r h = absurd (not-suc-le-zero h)
+column-at row (suc n) xs zero h = rw zero-mul
+column-at row (suc n) xs (suc r) h =
+    column-at row n (drop row xs) r (le-of-suc-le-suc h) ∙ getD-drop row xs (r * row) nan ∙ nth xs (omega (arith, suc-mul r row))
+
+-- sample r of column t is sample t of row r
+columns-at : (row n k : ℕ) (xs : List Float) (t r : ℕ) → t < k → r < n → getD (columns row n k xs) (t * n + r) nan ≡ getD xs (r * row + t) nan
+columns-at row n zero xs t r ht hr = absurd (not-suc-le-zero ht)
+columns-at row n (suc k) xs zero r ht hr =
+    let h : r < length (column row n xs) = rw column-length hr in
+    nth (columns row n (suc k) xs) (omega (arith, zero-mul n))
+    ∙ List·getD-append (column row n xs) (columns row n k (drop 1 xs)) nan r h
+    ∙ column-at row n xs r hr
+    ∙ nth xs (omega arith)
+columns-at row n (suc k) xs (suc t) r ht hr =
+    nth (columns row n (suc k) xs) (omega (arith, suc-mul t n, column-length row n xs))
+    ∙ getD-append-add (column row n xs) (columns row n k (drop 1 xs)) (t * n + r) nan
+    ∙ columns-at row n k (drop 1 xs) t r (le-of-suc-le-suc ht) hr
+    ∙ getD-drop 1 xs (r * row + t) nan
+    ∙ nth xs (omega arith)
+
+-- every place is a place in a row
+in-row : (row n i : ℕ) → i < n * row → (i / row < n) × (i % row < row) × (i / row * row + i % row ≡ i)
+in-row zero n i h = absurd (not-suc-le-zero (rw mul-zero at h))
+in-row (suc row) n i h = let p : 0 < suc row = omega arith in (div-lt-iff-lt-mul p .1 h, mod-lt i p, div-add-mod' i (suc row))
+
+-- the columns of the columns are the rows
+columns-back : (row n : ℕ) (xs : List Float) → length xs ≡ n * row → columns n row n (columns row n row xs) ≡ xs
+columns-back row n xs e = ext-getD nan _ xs (long ∙ sym e) same
+  where
+    long : length (columns n row n (columns row n row xs)) ≡ n * row
+    long = columns-length n row n (columns row n row xs)
+
+    same : (i : ℕ) → i < length (columns n row n (columns row n row xs)) → getD (columns n row n (columns row n row xs)) i nan ≡ getD xs i nan
+    same i h =
+        let p = in-row row n i (rw long at h) in
+        nth (columns n row n (columns row n row xs)) (sym (p .2))
+        ∙ columns-at n row n (columns row n row xs) (i / row) (i % row) (p .0) (p .1)
+        ∙ columns-at row n row xs (i % row) (i / row) (p .1) (p .0)
+        ∙ nth xs (p .2)
+
+module _ (channels samples : ℕ) (xs : List Float) where
+  pub interleaved-length : length (interleaved channels samples xs) ≡ samples * channels
+  interleaved-length = columns-length samples channels samples xs
+
+  pub deinterleaved-length : length (deinterleaved channels samples xs) ≡ channels * samples
+  deinterleaved-length = columns-length channels samples channels xs
+
+  -- sample t of channel c lies at c of frame t, and back
+  pub interleaved-at : (c t : ℕ) → c < channels → t < samples
+      → getD (interleaved channels samples xs) (t * channels + c) nan ≡ getD xs (c * samples + t) nan
+  interleaved-at c t hc ht = columns-at samples channels samples xs t c ht hc
+
+  pub deinterleaved-at : (c t : ℕ) → c < channels → t < samples
+      → getD (deinterleaved channels samples xs) (c * samples + t) nan ≡ getD xs (t * channels + c) nan
+  deinterleaved-at c t hc ht = columns-at channels samples channels xs c t hc ht
+
+  pub deinterleaved-interleaved : length xs ≡ channels * samples → deinterleaved channels samples (interleaved channels samples xs) ≡ xs
+  deinterleaved-interleaved e = columns-back samples channels xs e
+
+  pub interleaved-deinterleaved : length xs ≡ channels * samples → interleaved channels samples (deinterleaved channels samples xs) ≡ xs
+  interleaved-deinterleaved e = columns-back channels samples xs (e ∙ mul-comm channels samples)
+
+-- ---- levels
+
+pub scaled-length : (volume : Float) (xs : List Float) → length (scaled volume xs) ≡ length xs
+scaled-length volume xs = length-map xs (λ x. x ⊗ volume)
+
+pub mixed-length : (xs other : List Float) → length (mixed xs other) ≡ length other
+mixed-length [] other = refl
+mixed-length (x ∷ xs) [] = refl
+mixed-length (x ∷ xs) (y ∷ other) = ap suc (mixed-length xs other)
+
+summed-length : (samples n : ℕ) (row buffer : List Float) → length (summed samples n row buffer) ≡ length row
+summed-length samples zero row buffer = refl
+summed-length samples (suc n) row buffer =
+    summed-length samples n (mixed (take samples buffer) row) (drop samples buffer) ∙ mixed-length (take samples buffer) row
+
+pub downmixed-length : (channels samples : ℕ) (buffer : List Float) → length (downmixed channels samples buffer) ≡ samples
+unfolding downmixed
+downmixed-length channels samples buffer =
+    length-map (summed samples channels (replicate samples +0) buffer) _
+    ∙ summed-length samples channels (replicate samples +0) buffer
+    ∙ length-replicate samples +0

@@ -1,0 +1,39 @@
+-- `audio_buffer::downmix` meets its contract. Assumes nothing.
+use borrow.Author.Needs.{needs}
+use Rattle.audio_buffer.proofs.Laws.{downmix-of}
+use Rattle.audio_buffer.proofs.Turns.{passed, worked, refused}
+use Rattle.audio_buffer.proofs.downmix.Statement.{statement}
+use Rattle.audio_buffer.proofs.downmix.Tie as tie
+
+judge-downmix-requires : tie.Need-judge-downmix-requires
+judge-downmix-requires c κs = search needs
+
+is-accepted-requires : tie.Need-is-accepted-requires
+is-accepted-requires c κs = search needs
+
+average-requires : tie.Need-average-requires
+average-requires c κs =
+    let t = c .before in
+    downmix-of _ _ _ _ (passed (t .before .before .judge-downmix .ensures) (t .before .is-accepted .ensures) (t .if1 .taken))
+
+same-length : tie.Need-same-length
+same-length c = search needs
+
+returns : tie.Need-returns
+returns c =
+    let t = c .before .before .before .before in
+    worked (t .before .before .judge-downmix .ensures) (t .before .is-accepted .ensures) _ (t .if1 .taken) (c .before .before .average .ensures)
+
+returns-2 : tie.Need-returns-2
+returns-2 c = refused (c .before .before .judge-downmix .ensures) (c .before .is-accepted .ensures) _ _ (c .if1 .left)
+
+pub downmix-spec : {M : Type 1} → statement M
+downmix-spec =
+    tie.close
+    (tie.spec
+    judge-downmix-requires
+    is-accepted-requires
+    average-requires
+    same-length
+    returns
+    returns-2)

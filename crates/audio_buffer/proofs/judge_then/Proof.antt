@@ -1,0 +1,41 @@
+-- `audio_buffer::judge_then` meets its contract: where the counts are in range their product fits. Assumes nothing.
+use borrow.Author.Needs.{needs}
+use native.Mathlib.Omega.{arith}
+use mathlib.Core.Path.{_≡_, refl, sym, _∙_}
+use mathlib.Core.Bool.{true, false, _&&_}
+use Rattle.samples.specs.declared.Answer.the-variants.{BadIndex}
+use Rattle.samples.proofs.Laws.{need-of, and-of}
+use Rattle.audio_buffer.specs.Judges.{channelsOk, samplesOk, judgedThen}
+use Rattle.audio_buffer.proofs.Laws.{counts-of}
+use Rattle.audio_buffer.proofs.judge_then.Statement.{statement}
+use Rattle.audio_buffer.proofs.judge_then.Tie as tie
+
+channels-ok-requires : tie.Need-channels-ok-requires
+channels-ok-requires c κs = search needs
+
+and-requires : tie.Need-and-requires
+and-requires c κs = search needs
+
+-- what the test of both counts says
+counts : (c : tie.After-and) → c .and .result ≡ (channelsOk (c .before .before .args .channels) && samplesOk (c .before .before .args .samples))
+counts c = and-of (c .and .ensures) (c .before .channels-ok .ensures) refl
+
+mul-need : tie.Need-mul-need
+mul-need c =
+    let a = c .before .before .before .args in
+    omega (arith, counts-of (a .channels) (a .samples) (sym (counts (c .before)) ∙ c .if1 .taken))
+
+need-requires : tie.Need-need-requires
+need-requires c κs = search needs
+
+returns : tie.Need-returns
+unfolding judgedThen
+returns c = need-of {ok = true} BadIndex (c .need .ensures) (sym (c .before .if1 .taken) ∙ counts (c .before .before)) refl
+
+returns-2 : tie.Need-returns-2
+unfolding judgedThen
+returns-2 c = need-of {ok = false} BadIndex refl (sym (c .if1 .left) ∙ counts (c .before)) refl
+
+pub judge-then-spec : {M : Type 1} → statement M
+judge-then-spec =
+    tie.close (tie.spec channels-ok-requires and-requires mul-need need-requires returns returns-2)

@@ -1,0 +1,36 @@
+-- What the buffer helpers refuse.
+use mathlib.Core.Bool.{Bool, _&&_}
+use Prim.Native.Nat.{ℕ, _*_}
+use lib.Dec.{leb, ltb, eqb}
+use Rattle.samples.specs.declared.Answer.{Answer}
+use Rattle.samples.specs.declared.Answer.the-variants.{Accepted, BadLength, BadIndex}
+use Rattle.samples.specs.Answers.{need}
+
+-- "Buffer helpers: 1 to 16 channels, 0 to 65,536 samples each."
+unfoldable pub channelsOk : ℕ → Bool
+channelsOk channels = leb 1 channels && leb channels 16
+
+abbrev pub samplesOk : ℕ → Bool
+samplesOk samples = leb samples 65536
+
+-- a slice that is to hold so many channels, before what `rest` judges: "4: channels 0 or above 16, too many samples", "3: a lent slice
+-- hasn't its exact length", and "A length that depends on a count refused with 4 isn't judged"
+unfoldable pub judgedThen : ℕ → ℕ → ℕ → Answer → Answer
+judgedThen channels samples length rest =
+    need (channelsOk channels && samplesOk samples) BadIndex (need (eqb length (channels * samples)) BadLength rest)
+
+-- a call that is lent one buffer, and one that is lent two
+abbrev pub judged : ℕ → ℕ → ℕ → Answer
+judged channels samples length = judgedThen channels samples length Accepted
+
+abbrev pub judgedTwo : ℕ → ℕ → ℕ → ℕ → Answer
+judgedTwo channels samples length other = judgedThen channels samples length (judgedThen channels samples other Accepted)
+
+-- downmix: the output's length depends on the samples alone, so it is judged before the channels
+unfoldable pub judgedDownmix : ℕ → ℕ → ℕ → ℕ → Answer
+judgedDownmix channels samples length output =
+    need (samplesOk samples) BadIndex (need (eqb output samples) BadLength (judgedThen channels samples length Accepted))
+
+-- "4: channel not below the count"
+abbrev pub judgedChannel : ℕ → ℕ → ℕ → ℕ → Answer
+judgedChannel channels samples channel length = judgedThen channels samples length (need (ltb channel channels) BadIndex Accepted)

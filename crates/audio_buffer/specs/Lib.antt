@@ -1,0 +1,4 @@
+pub mod Verdict
+pub mod Judges
+pub mod Layout
+pub mod Levels

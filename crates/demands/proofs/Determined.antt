@@ -1,0 +1,324 @@
+-- "A contract determines the result and every lent float afterwards, for all arguments, refusals too": of each public function, over its
+-- own contract. A theorem is named after the crate and the function, and where it speaks of a slice at exit after that too. Assumes nothing.
+use mathlib.Core.Path.{sym, _∙_}
+use denote.Ref.{now}
+use Rattle.demands.specs.Determined.{OneResult, OneValue, OneExit}
+use Rattle.samples.proofs.number.Kinds as samples-number-kinds
+use Rattle.samples.proofs.number.Reads as samples-number-reads
+use Rattle.samples.proofs.index.Kinds as samples-index-kinds
+use Rattle.samples.proofs.index.Reads as samples-index-reads
+use Rattle.samples.proofs.is_accepted.Kinds as samples-is-accepted-kinds
+use Rattle.samples.proofs.is_accepted.Reads as samples-is-accepted-reads
+use Rattle.samples.proofs.need.Kinds as samples-need-kinds
+use Rattle.samples.proofs.need.Reads as samples-need-reads
+use Rattle.samples.proofs.and.Kinds as samples-and-kinds
+use Rattle.samples.proofs.and.Reads as samples-and-reads
+use Rattle.samples.proofs.rate_ok.Kinds as samples-rate-ok-kinds
+use Rattle.samples.proofs.rate_ok.Reads as samples-rate-ok-reads
+use Rattle.samples.proofs.frame_ok.Kinds as samples-frame-ok-kinds
+use Rattle.samples.proofs.frame_ok.Reads as samples-frame-ok-reads
+use Rattle.samples.proofs.is_finite.Kinds as samples-is-finite-kinds
+use Rattle.samples.proofs.is_finite.Reads as samples-is-finite-reads
+use Rattle.samples.proofs.is_plus_zero.Kinds as samples-is-plus-zero-kinds
+use Rattle.samples.proofs.is_plus_zero.Reads as samples-is-plus-zero-reads
+use Rattle.samples.proofs.clear.Kinds as samples-clear-kinds
+use Rattle.samples.proofs.clear.Reads as samples-clear-reads
+use Rattle.samples.proofs.first_bad.Kinds as samples-first-bad-kinds
+use Rattle.samples.proofs.first_bad.Reads as samples-first-bad-reads
+use Rattle.samples.proofs.is_nothing.Kinds as samples-is-nothing-kinds
+use Rattle.samples.proofs.is_nothing.Reads as samples-is-nothing-reads
+use Rattle.samples.proofs.all_finite.Kinds as samples-all-finite-kinds
+use Rattle.samples.proofs.all_finite.Reads as samples-all-finite-reads
+use Rattle.delay.proofs.fresh.Kinds as delay-fresh-kinds
+use Rattle.delay.proofs.fresh.Reads as delay-fresh-reads
+use Rattle.delay.proofs.reset.Kinds as delay-reset-kinds
+use Rattle.delay.proofs.reset.Reads as delay-reset-reads
+use Rattle.delay.proofs.get.Kinds as delay-get-kinds
+use Rattle.delay.proofs.get.Reads as delay-get-reads
+use Rattle.delay.proofs.put.Kinds as delay-put-kinds
+use Rattle.delay.proofs.put.Reads as delay-put-reads
+use Rattle.delay.proofs.get4.Kinds as delay-get4-kinds
+use Rattle.delay.proofs.get4.Reads as delay-get4-reads
+use Rattle.delay.proofs.put4.Kinds as delay-put4-kinds
+use Rattle.delay.proofs.put4.Reads as delay-put4-reads
+use Rattle.iir.proofs.new_from_coefficients.Kinds as iir-new-from-coefficients-kinds
+use Rattle.iir.proofs.new_from_coefficients.Reads as iir-new-from-coefficients-reads
+use Rattle.iir.proofs.filtered.Kinds as iir-filtered-kinds
+use Rattle.iir.proofs.filtered.Reads as iir-filtered-reads
+use Rattle.iir.proofs.run.Kinds as iir-run-kinds
+use Rattle.iir.proofs.run.Reads as iir-run-reads
+use Rattle.iir.proofs.three_bands.Kinds as iir-three-bands-kinds
+use Rattle.iir.proofs.three_bands.Reads as iir-three-bands-reads
+use Rattle.iir.proofs.is_finite.Kinds as iir-is-finite-kinds
+use Rattle.iir.proofs.is_finite.Reads as iir-is-finite-reads
+use Rattle.iir.proofs.is_blank.Kinds as iir-is-blank-kinds
+use Rattle.iir.proofs.is_blank.Reads as iir-is-blank-reads
+use Rattle.hadamard.proofs.minus.Kinds as hadamard-minus-kinds
+use Rattle.hadamard.proofs.minus.Reads as hadamard-minus-reads
+use Rattle.hadamard.proofs.mix_sample.Kinds as hadamard-mix-sample-kinds
+use Rattle.hadamard.proofs.mix_sample.Reads as hadamard-mix-sample-reads
+use Rattle.hadamard.proofs.mix_rows.Kinds as hadamard-mix-rows-kinds
+use Rattle.hadamard.proofs.mix_rows.Reads as hadamard-mix-rows-reads
+use Rattle.bands.proofs.time_ok.Kinds as bands-time-ok-kinds
+use Rattle.bands.proofs.time_ok.Reads as bands-time-ok-reads
+use Rattle.bands.proofs.times_ok.Kinds as bands-times-ok-kinds
+use Rattle.bands.proofs.times_ok.Reads as bands-times-ok-reads
+use Rattle.bands.proofs.largest.Kinds as bands-largest-kinds
+use Rattle.bands.proofs.largest.Reads as bands-largest-reads
+use Rattle.bands.proofs.tail_count.Kinds as bands-tail-count-kinds
+use Rattle.bands.proofs.tail_count.Reads as bands-tail-count-reads
+use Rattle.primes.proofs.prime.Kinds as primes-prime-kinds
+use Rattle.primes.proofs.prime.Reads as primes-prime-reads
+use Rattle.primes.proofs.delay.Kinds as primes-delay-kinds
+use Rattle.primes.proofs.delay.Reads as primes-delay-reads
+use Rattle.primes.proofs.delay_min.Kinds as primes-delay-min-kinds
+use Rattle.primes.proofs.delay_min.Reads as primes-delay-min-reads
+use Rattle.primes.proofs.prime_power.Kinds as primes-prime-power-kinds
+use Rattle.primes.proofs.prime_power.Reads as primes-prime-power-reads
+use Rattle.primes.proofs.delay_value.Kinds as primes-delay-value-kinds
+use Rattle.primes.proofs.delay_value.Reads as primes-delay-value-reads
+use Rattle.primes.proofs.delay_values.Kinds as primes-delay-values-kinds
+use Rattle.primes.proofs.delay_values.Reads as primes-delay-values-reads
+use Rattle.audio_buffer.proofs.verdict.Kinds as audio-buffer-verdict-kinds
+use Rattle.audio_buffer.proofs.verdict.Reads as audio-buffer-verdict-reads
+use Rattle.audio_buffer.proofs.write_interleaved.Kinds as audio-buffer-write-interleaved-kinds
+use Rattle.audio_buffer.proofs.write_interleaved.Reads as audio-buffer-write-interleaved-reads
+use Rattle.audio_buffer.proofs.read_interleaved.Kinds as audio-buffer-read-interleaved-kinds
+use Rattle.audio_buffer.proofs.read_interleaved.Reads as audio-buffer-read-interleaved-reads
+use Rattle.audio_buffer.proofs.make_silent.Kinds as audio-buffer-make-silent-kinds
+use Rattle.audio_buffer.proofs.make_silent.Reads as audio-buffer-make-silent-reads
+use Rattle.audio_buffer.proofs.scale.Kinds as audio-buffer-scale-kinds
+use Rattle.audio_buffer.proofs.scale.Reads as audio-buffer-scale-reads
+use Rattle.audio_buffer.proofs.mix.Kinds as audio-buffer-mix-kinds
+use Rattle.audio_buffer.proofs.mix.Reads as audio-buffer-mix-reads
+use Rattle.audio_buffer.proofs.downmix.Kinds as audio-buffer-downmix-kinds
+use Rattle.audio_buffer.proofs.downmix.Reads as audio-buffer-downmix-reads
+use Rattle.audio_buffer.proofs.channel_number.Kinds as audio-buffer-channel-number-kinds
+use Rattle.audio_buffer.proofs.channel_number.Reads as audio-buffer-channel-number-reads
+use Rattle.audio_buffer.proofs.channel.Kinds as audio-buffer-channel-kinds
+use Rattle.audio_buffer.proofs.channel.Reads as audio-buffer-channel-reads
+use Rattle.wire.proofs.sample.Kinds as wire-sample-kinds
+use Rattle.wire.proofs.sample.Reads as wire-sample-reads
+use Rattle.wire.proofs.bits.Kinds as wire-bits-kinds
+use Rattle.wire.proofs.bits.Reads as wire-bits-reads
+use Rattle.wire.proofs.decode.Kinds as wire-decode-kinds
+use Rattle.wire.proofs.decode.Reads as wire-decode-reads
+use Rattle.wire.proofs.encode.Kinds as wire-encode-kinds
+use Rattle.wire.proofs.encode.Reads as wire-encode-reads
+
+-- ---- samples
+
+pub samples-number : OneResult 0 samples-number-kinds.ps samples-number-kinds.r samples-number-reads.Post
+samples-number κs a x y s t p q = p ∙ sym (q)
+
+pub samples-index : OneResult 0 samples-index-kinds.ps samples-index-kinds.r samples-index-reads.Post
+samples-index κs a x y s t p q = p ∙ sym (q)
+
+pub samples-is-accepted : OneResult 0 samples-is-accepted-kinds.ps samples-is-accepted-kinds.r samples-is-accepted-reads.Post
+samples-is-accepted κs a x y s t p q = p ∙ sym (q)
+
+pub samples-need : OneResult 0 samples-need-kinds.ps samples-need-kinds.r samples-need-reads.Post
+samples-need κs a x y s t p q = p ∙ sym (q)
+
+pub samples-and : OneResult 0 samples-and-kinds.ps samples-and-kinds.r samples-and-reads.Post
+samples-and κs a x y s t p q = p ∙ sym (q)
+
+pub samples-rate-ok : OneResult 0 samples-rate-ok-kinds.ps samples-rate-ok-kinds.r samples-rate-ok-reads.Post
+samples-rate-ok κs a x y s t p q = p ∙ sym (q)
+
+pub samples-frame-ok : OneResult 0 samples-frame-ok-kinds.ps samples-frame-ok-kinds.r samples-frame-ok-reads.Post
+samples-frame-ok κs a x y s t p q = p ∙ sym (q)
+
+pub samples-is-finite : OneResult 0 samples-is-finite-kinds.ps samples-is-finite-kinds.r samples-is-finite-reads.Post
+samples-is-finite κs a x y s t p q = p ∙ sym (q)
+
+pub samples-is-plus-zero : OneResult 0 samples-is-plus-zero-kinds.ps samples-is-plus-zero-kinds.r samples-is-plus-zero-reads.Post
+samples-is-plus-zero κs a x y s t p q = p ∙ sym (q)
+
+pub samples-clear-xs : OneExit 1 samples-clear-kinds.ps samples-clear-kinds.r samples-clear-reads.Post (λ κs s. s .0 .now)
+samples-clear-xs κs a x y s t p q = p ∙ sym (q)
+
+pub samples-first-bad : OneResult 1 samples-first-bad-kinds.ps samples-first-bad-kinds.r samples-first-bad-reads.Post
+samples-first-bad κs a x y s t p q = p ∙ sym (q)
+
+pub samples-is-nothing : OneResult 0 samples-is-nothing-kinds.ps samples-is-nothing-kinds.r samples-is-nothing-reads.Post
+samples-is-nothing κs a x y s t p q = p ∙ sym (q)
+
+pub samples-all-finite : OneResult 1 samples-all-finite-kinds.ps samples-all-finite-kinds.r samples-all-finite-reads.Post
+samples-all-finite κs a x y s t p q = p ∙ sym (q)
+
+-- ---- delay
+
+pub delay-fresh : OneResult 1 delay-fresh-kinds.ps delay-fresh-kinds.r delay-fresh-reads.Post
+delay-fresh κs a x y s t p q = p .0 ∙ sym (q .0)
+
+pub delay-fresh-ring : OneExit 1 delay-fresh-kinds.ps delay-fresh-kinds.r delay-fresh-reads.Post (λ κs s. s .0 .now)
+delay-fresh-ring κs a x y s t p q = p .1 ∙ sym (q .1)
+
+pub delay-reset : OneResult 1 delay-reset-kinds.ps delay-reset-kinds.r delay-reset-reads.Post
+delay-reset κs a x y s t p q = p .0 ∙ sym (q .0)
+
+pub delay-reset-ring : OneExit 1 delay-reset-kinds.ps delay-reset-kinds.r delay-reset-reads.Post (λ κs s. s .0 .now)
+delay-reset-ring κs a x y s t p q = p .1 ∙ sym (q .1)
+
+pub delay-get : OneResult 2 delay-get-kinds.ps delay-get-kinds.r delay-get-reads.Post
+delay-get κs a x y s t p q = p .0 ∙ sym (q .0)
+
+pub delay-get-out : OneExit 2 delay-get-kinds.ps delay-get-kinds.r delay-get-reads.Post (λ κs s. s .1 .1 .0 .now)
+delay-get-out κs a x y s t p q = p .1 ∙ sym (q .1)
+
+pub delay-put : OneResult 2 delay-put-kinds.ps delay-put-kinds.r delay-put-reads.Post
+delay-put κs a x y s t p q = p .0 ∙ sym (q .0)
+
+pub delay-put-ring : OneExit 2 delay-put-kinds.ps delay-put-kinds.r delay-put-reads.Post (λ κs s. s .0 .now)
+delay-put-ring κs a x y s t p q = p .1 ∙ sym (q .1)
+
+pub delay-get4 : OneResult 1 delay-get4-kinds.ps delay-get4-kinds.r delay-get4-reads.Post
+delay-get4 κs a x y s t p q = p ∙ sym (q)
+
+pub delay-put4 : OneResult 1 delay-put4-kinds.ps delay-put4-kinds.r delay-put4-reads.Post
+delay-put4 κs a x y s t p q = p .0 ∙ sym (q .0)
+
+pub delay-put4-ring : OneExit 1 delay-put4-kinds.ps delay-put4-kinds.r delay-put4-reads.Post (λ κs s. s .0 .now)
+delay-put4-ring κs a x y s t p q = p .1 ∙ sym (q .1)
+
+-- ---- iir
+
+pub iir-new-from-coefficients : OneResult 0 iir-new-from-coefficients-kinds.ps iir-new-from-coefficients-kinds.r iir-new-from-coefficients-reads.Post
+iir-new-from-coefficients κs a x y s t p q = p ∙ sym (q)
+
+pub iir-filtered : OneResult 0 iir-filtered-kinds.ps iir-filtered-kinds.r iir-filtered-reads.Post
+iir-filtered κs a x y s t p q = p ∙ sym (q)
+
+pub iir-run : OneResult 1 iir-run-kinds.ps iir-run-kinds.r iir-run-reads.Post
+iir-run κs a x y s t p q = p .0 ∙ sym (q .0)
+
+pub iir-run-xs : OneExit 1 iir-run-kinds.ps iir-run-kinds.r iir-run-reads.Post (λ κs s. s .1 .0 .now)
+iir-run-xs κs a x y s t p q = p .1 ∙ sym (q .1)
+
+pub iir-three-bands : OneResult 1 iir-three-bands-kinds.ps iir-three-bands-kinds.r iir-three-bands-reads.Post
+iir-three-bands κs a x y s t p q = p .0 ∙ sym (q .0)
+
+pub iir-three-bands-xs : OneExit 1 iir-three-bands-kinds.ps iir-three-bands-kinds.r iir-three-bands-reads.Post (λ κs s. s .1 .0 .now)
+iir-three-bands-xs κs a x y s t p q = p .1 ∙ sym (q .1)
+
+pub iir-is-finite : OneResult 0 iir-is-finite-kinds.ps iir-is-finite-kinds.r iir-is-finite-reads.Post
+iir-is-finite κs a x y s t p q = p ∙ sym (q)
+
+pub iir-is-blank : OneResult 0 iir-is-blank-kinds.ps iir-is-blank-kinds.r iir-is-blank-reads.Post
+iir-is-blank κs a x y s t p q = p ∙ sym (q)
+
+-- ---- hadamard
+
+pub hadamard-minus : OneResult 0 hadamard-minus-kinds.ps hadamard-minus-kinds.r hadamard-minus-reads.Post
+hadamard-minus κs a x y s t p q = p ∙ sym (q)
+
+pub hadamard-mix-sample : OneResult 2 hadamard-mix-sample-kinds.ps hadamard-mix-sample-kinds.r hadamard-mix-sample-reads.Post
+hadamard-mix-sample κs a x y s t p q = p .0 ∙ sym (q .0)
+
+pub hadamard-mix-sample-y : OneExit 2 hadamard-mix-sample-kinds.ps hadamard-mix-sample-kinds.r hadamard-mix-sample-reads.Post (λ κs s. s .1 .0 .now)
+hadamard-mix-sample-y κs a x y s t p q = (rw (p .0) at (p .1)) ∙ sym (rw (q .0) at (q .1))
+
+pub hadamard-mix-rows : OneResult 1 hadamard-mix-rows-kinds.ps hadamard-mix-rows-kinds.r hadamard-mix-rows-reads.Post
+hadamard-mix-rows κs a x y s t p q = p .0 ∙ sym (q .0)
+
+pub hadamard-mix-rows-rows : OneExit 1 hadamard-mix-rows-kinds.ps hadamard-mix-rows-kinds.r hadamard-mix-rows-reads.Post (λ κs s. s .1 .1 .0 .now)
+hadamard-mix-rows-rows κs a x y s t p q = (rw (p .0) at (p .1)) ∙ sym (rw (q .0) at (q .1))
+
+-- ---- bands
+
+pub bands-time-ok : OneResult 0 bands-time-ok-kinds.ps bands-time-ok-kinds.r bands-time-ok-reads.Post
+bands-time-ok κs a x y s t p q = p ∙ sym (q)
+
+pub bands-times-ok : OneResult 0 bands-times-ok-kinds.ps bands-times-ok-kinds.r bands-times-ok-reads.Post
+bands-times-ok κs a x y s t p q = p ∙ sym (q)
+
+pub bands-largest : OneResult 0 bands-largest-kinds.ps bands-largest-kinds.r bands-largest-reads.Post
+bands-largest κs a x y s t p q = p ∙ sym (q)
+
+pub bands-tail-count : OneResult 0 bands-tail-count-kinds.ps bands-tail-count-kinds.r bands-tail-count-reads.Post
+bands-tail-count κs a x y s t p q = p ∙ sym (q)
+
+-- ---- primes
+
+pub primes-prime : OneResult 0 primes-prime-kinds.ps primes-prime-kinds.r primes-prime-reads.Post
+primes-prime κs a x y s t p q = p ∙ sym (q)
+
+pub primes-delay : OneResult 0 primes-delay-kinds.ps primes-delay-kinds.r primes-delay-reads.Post
+primes-delay κs a x y s t p q = p ∙ sym (q)
+
+pub primes-delay-min : OneResult 0 primes-delay-min-kinds.ps primes-delay-min-kinds.r primes-delay-min-reads.Post
+primes-delay-min κs a x y s t p q = p ∙ sym (q)
+
+pub primes-prime-power : OneResult 0 primes-prime-power-kinds.ps primes-prime-power-kinds.r primes-prime-power-reads.Post
+primes-prime-power κs a x y s t p q = p ∙ sym (q)
+
+pub primes-delay-value : OneResult 0 primes-delay-value-kinds.ps primes-delay-value-kinds.r primes-delay-value-reads.Post
+primes-delay-value κs a x y s t p q = p ∙ sym (q)
+
+pub primes-delay-values : OneResult 2 primes-delay-values-kinds.ps primes-delay-values-kinds.r primes-delay-values-reads.Post
+primes-delay-values κs a x y s t p q = p .0 ∙ sym (q .0)
+
+pub primes-delay-values-out : OneExit 2 primes-delay-values-kinds.ps primes-delay-values-kinds.r primes-delay-values-reads.Post (λ κs s. s .1 .1 .1 .0 .now)
+primes-delay-values-out κs a x y s t p q = p .1 ∙ sym (q .1)
+
+-- ---- audio_buffer
+
+pub audio-buffer-verdict : OneResult 0 audio-buffer-verdict-kinds.ps audio-buffer-verdict-kinds.r audio-buffer-verdict-reads.Post
+audio-buffer-verdict κs a x y s t p q = p ∙ sym (q)
+
+pub audio-buffer-write-interleaved : OneResult 2 audio-buffer-write-interleaved-kinds.ps audio-buffer-write-interleaved-kinds.r audio-buffer-write-interleaved-reads.Post
+audio-buffer-write-interleaved κs a x y s t p q = p .0 ∙ sym (q .0)
+
+pub audio-buffer-write-interleaved-target : OneExit 2 audio-buffer-write-interleaved-kinds.ps audio-buffer-write-interleaved-kinds.r audio-buffer-write-interleaved-reads.Post (λ κs s. s .1 .1 .1 .0 .now)
+audio-buffer-write-interleaved-target κs a x y s t p q = p .1 ∙ sym (q .1)
+
+pub audio-buffer-read-interleaved : OneResult 2 audio-buffer-read-interleaved-kinds.ps audio-buffer-read-interleaved-kinds.r audio-buffer-read-interleaved-reads.Post
+audio-buffer-read-interleaved κs a x y s t p q = p .0 ∙ sym (q .0)
+
+pub audio-buffer-read-interleaved-buffer : OneExit 2 audio-buffer-read-interleaved-kinds.ps audio-buffer-read-interleaved-kinds.r audio-buffer-read-interleaved-reads.Post (λ κs s. s .1 .1 .1 .0 .now)
+audio-buffer-read-interleaved-buffer κs a x y s t p q = p .1 ∙ sym (q .1)
+
+pub audio-buffer-make-silent : OneResult 1 audio-buffer-make-silent-kinds.ps audio-buffer-make-silent-kinds.r audio-buffer-make-silent-reads.Post
+audio-buffer-make-silent κs a x y s t p q = p .0 ∙ sym (q .0)
+
+pub audio-buffer-make-silent-buffer : OneExit 1 audio-buffer-make-silent-kinds.ps audio-buffer-make-silent-kinds.r audio-buffer-make-silent-reads.Post (λ κs s. s .1 .1 .0 .now)
+audio-buffer-make-silent-buffer κs a x y s t p q = p .1 ∙ sym (q .1)
+
+pub audio-buffer-scale : OneResult 1 audio-buffer-scale-kinds.ps audio-buffer-scale-kinds.r audio-buffer-scale-reads.Post
+audio-buffer-scale κs a x y s t p q = p .0 ∙ sym (q .0)
+
+pub audio-buffer-scale-buffer : OneExit 1 audio-buffer-scale-kinds.ps audio-buffer-scale-kinds.r audio-buffer-scale-reads.Post (λ κs s. s .1 .1 .1 .0 .now)
+audio-buffer-scale-buffer κs a x y s t p q = p .1 ∙ sym (q .1)
+
+pub audio-buffer-mix : OneResult 2 audio-buffer-mix-kinds.ps audio-buffer-mix-kinds.r audio-buffer-mix-reads.Post
+audio-buffer-mix κs a x y s t p q = p .0 ∙ sym (q .0)
+
+pub audio-buffer-mix-other : OneExit 2 audio-buffer-mix-kinds.ps audio-buffer-mix-kinds.r audio-buffer-mix-reads.Post (λ κs s. s .1 .1 .1 .0 .now)
+audio-buffer-mix-other κs a x y s t p q = p .1 ∙ sym (q .1)
+
+pub audio-buffer-downmix : OneResult 2 audio-buffer-downmix-kinds.ps audio-buffer-downmix-kinds.r audio-buffer-downmix-reads.Post
+audio-buffer-downmix κs a x y s t p q = p .0 ∙ sym (q .0)
+
+pub audio-buffer-downmix-output : OneExit 2 audio-buffer-downmix-kinds.ps audio-buffer-downmix-kinds.r audio-buffer-downmix-reads.Post (λ κs s. s .1 .1 .1 .0 .now)
+audio-buffer-downmix-output κs a x y s t p q = p .1 ∙ sym (q .1)
+
+pub audio-buffer-channel-number : OneResult 0 audio-buffer-channel-number-kinds.ps audio-buffer-channel-number-kinds.r audio-buffer-channel-number-reads.Post
+audio-buffer-channel-number κs a x y s t p q = p ∙ sym (q)
+
+pub audio-buffer-channel : OneValue 1 audio-buffer-channel-kinds.ps audio-buffer-channel-kinds.r audio-buffer-channel-reads.Post (λ κs x. now x)
+audio-buffer-channel κs a x y s t p q = p ∙ sym (q)
+
+-- ---- wire
+
+pub wire-sample : OneResult 0 wire-sample-kinds.ps wire-sample-kinds.r wire-sample-reads.Post
+wire-sample κs a x y s t p q = p ∙ sym (q)
+
+pub wire-bits : OneResult 0 wire-bits-kinds.ps wire-bits-kinds.r wire-bits-reads.Post
+wire-bits κs a x y s t p q = p ∙ sym (q)
+
+pub wire-decode-out : OneExit 2 wire-decode-kinds.ps wire-decode-kinds.r wire-decode-reads.Post (λ κs s. s .1 .0 .now)
+wire-decode-out κs a x y s t p q = p ∙ sym (q)
+
+pub wire-encode-out : OneExit 2 wire-encode-kinds.ps wire-encode-kinds.r wire-encode-reads.Post (λ κs s. s .1 .0 .now)
+wire-encode-out κs a x y s t p q = p ∙ sym (q)

@@ -1,0 +1,28 @@
+-- The P set: every entry of the table computes. Assumes nothing.
+use mathlib.Core.Path.{refl}
+use lib.Count.{ones}
+use lib.Ieee.{ofBits, ofInt, add, sub, mul, div, lt, le, ne}
+use Rattle.samples.specs.Sizes.{rateOk, frameOk}
+use Rattle.delay.specs.Calls.{lengthOk, cursorsOk, countOk}
+use Rattle.delay.specs.Ring.{rotl, wrap, read, write}
+use Rattle.delay.specs.RingLaw.{gets}
+use Rattle.iir.specs.Step.{outOf, step}
+use Rattle.hadamard.specs.Mix.{minus, mixAt, mixed}
+use Rattle.bands.specs.Tail.{ceiling}
+use Rattle.bands.specs.Times.{timeOk, larger}
+use Rattle.primes.specs.Power.{powerFrom}
+use Rattle.audio_buffer.specs.Levels.{share, downmixed}
+use Rattle.demands.specs.Examples.{Examples}
+
+pub examples : Examples
+unfolding ofBits ofInt add sub mul div lt le ne ones rateOk frameOk lengthOk cursorsOk countOk rotl wrap read write gets outOf step minus mixAt mixed ceiling timeOk larger powerFrom share downmixed
+examples = record {
+  p1 = (refl, refl, refl);
+  p2 = refl;
+  p3 = (refl, refl, refl, λ p. refl, refl, refl, refl);
+  p4 = (refl, refl, refl, refl, refl);
+  p5 = refl;
+  p6 = λ v w. refl;
+  p7 = refl;
+  p8 = refl;
+}

@@ -1,0 +1,79 @@
+-- `wire::decode` meets its contract. The invariant: what is done, before what the bytes that are left give, is what all give. Assumes nothing.
+use borrow.Author.Needs.{needs}
+use native.Mathlib.Omega.{arith}
+use mathlib.Core.Path.{_≡_, refl, _∙_}
+use mathlib.Core.List.{_++_}
+use Prim.Native.Nat.{_*_, _-_, _≤_}
+use native.Mathlib.Nat.{sub-zero}
+use lib.ListN.{length, take, drop, length-set}
+use lib.Ieee.{nan}
+use denote.Ref.{now}
+use Rattle.samples.proofs.Turns.{stored, all-done}
+use Rattle.wire.specs.Wire.{decoded}
+use Rattle.wire.proofs.Laws.{decoded-more}
+use Rattle.wire.proofs.decode.Statement.{statement}
+use Rattle.wire.proofs.decode.Tie as tie
+
+abbrev Inv-loop : tie.InvT-loop
+Inv-loop bytes out₀ i₀ i-end out i =
+    (i ≤ length out₀) × (length out ≡ length out₀) × (take i out ++ decoded (length out₀ - i) (drop (4 * i) bytes) ≡ decoded (length out₀) bytes)
+
+abbrev μ-loop : tie.MeasureT-loop
+μ-loop bytes out₀ i₀ i-end out i = length out₀ - i
+
+loop-holds : tie.Need-loop-holds Inv-loop μ-loop
+loop-holds c = (search needs, refl, rw sub-zero refl)
+
+mul-sample-at : tie.Need-mul-sample-at Inv-loop μ-loop
+mul-sample-at c = search needs
+
+sample-at-requires : tie.Need-sample-at-requires Inv-loop μ-loop
+sample-at-requires c κs = search needs
+
+mul-out : tie.Need-mul-out Inv-loop μ-loop
+mul-out c = search needs
+
+slice-write-out : tie.Need-slice-write-out Inv-loop μ-loop
+slice-write-out c = search needs
+
+add-i : tie.Need-add-i Inv-loop μ-loop
+add-i c = search needs
+
+loop-less : tie.Need-loop-less Inv-loop μ-loop
+loop-less c = search needs
+
+loop-again : tie.Need-loop-again Inv-loop μ-loop
+loop-again c =
+    let l = c .before .before .loop in
+    let a = c .before .before .before .before .before .args in
+    let e = decoded-more (now (a .bytes)) (length (now (a .out))) (l .i) (omega arith) in (
+      omega arith,
+      simp length-set (l .inv .1),
+      stored (l .out) (l .i) nan (omega arith) _ (rw (c .sample-at .ensures) e) ∙ l .inv .2,
+    )
+
+same-length : tie.Need-same-length Inv-loop μ-loop
+same-length c = search needs
+
+returns : tie.Need-returns Inv-loop μ-loop
+returns c =
+    let l = c .before .loop in
+    let none : length (now (c .before .before .before .before .args .out)) - l .i ≡ 0 = omega arith in
+    all-done (l .out) (l .i) (omega arith) ∙ rw none at (l .inv .2)
+
+pub decode-spec : {M : Type 1} → statement M
+decode-spec =
+    tie.close
+    (tie.spec
+    Inv-loop
+    μ-loop
+    loop-holds
+    mul-sample-at
+    sample-at-requires
+    mul-out
+    slice-write-out
+    add-i
+    loop-less
+    loop-again
+    same-length
+    returns)
