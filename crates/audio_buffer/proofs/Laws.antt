@@ -36,42 +36,42 @@ counts-of channels samples e =
     let short = leb-true _ _ (p .1) in
     record { some = leb-true _ _ (q .0); few = few; short = short; all = mul-le-mul few short }
 
-pub judged-of : (channels samples length : ℕ) (rest : Answer) → judgedThen channels samples length rest ≡ Accepted
-    → Counts channels samples × (length ≡ channels * samples) × (rest ≡ Accepted)
+pub judged-of : (channels samples len : ℕ) (rest : Answer) → judgedThen channels samples len rest ≡ Accepted
+    → Counts channels samples × (len ≡ channels * samples) × (rest ≡ Accepted)
 unfolding judgedThen
-judged-of channels samples length rest e =
+judged-of channels samples len rest e =
     let p = needed (channelsOk channels && samplesOk samples) BadIndex _ refl e in
-    let q = needed (eqb length (channels * samples)) BadLength rest refl (p .1) in
+    let q = needed (eqb len (channels * samples)) BadLength rest refl (p .1) in
     (counts-of channels samples (p .0), eqb-true _ _ (q .0), q .1)
 
 -- and the other way: a slice of the right length is left to the rest
-pub judged-yes : (channels samples length : ℕ) (rest : Answer) → 1 ≤ channels → channels ≤ 16 → samples ≤ 65536 → length ≡ channels * samples
-    → judgedThen channels samples length rest ≡ rest
+pub judged-yes : (channels samples len : ℕ) (rest : Answer) → 1 ≤ channels → channels ≤ 16 → samples ≤ 65536 → len ≡ channels * samples
+    → judgedThen channels samples len rest ≡ rest
 unfolding judgedThen channelsOk
-judged-yes channels samples length rest some few short fills =
-    rw (le-leb 1 channels some, le-leb channels 16 few, le-leb samples 65536 short, eq-eqb length (channels * samples) fills)
+judged-yes channels samples len rest some few short fills =
+    rw (le-leb 1 channels some, le-leb channels 16 few, le-leb samples 65536 short, eq-eqb len (channels * samples) fills)
 
-pub two-of : (channels samples length other : ℕ) → judgedTwo channels samples length other ≡ Accepted
-    → (length ≡ channels * samples) × (other ≡ channels * samples)
-two-of channels samples length other e =
-    let p = judged-of channels samples length _ e in
+pub two-of : (channels samples len other : ℕ) → judgedTwo channels samples len other ≡ Accepted
+    → (len ≡ channels * samples) × (other ≡ channels * samples)
+two-of channels samples len other e =
+    let p = judged-of channels samples len _ e in
     let q = judged-of channels samples other Accepted (p .2) in
     (p .1, q .1)
 
-pub downmix-of : (channels samples length output : ℕ) → judgedDownmix channels samples length output ≡ Accepted
-    → (channels ≤ 16) × (length ≡ channels * samples) × (output ≡ samples)
+pub downmix-of : (channels samples len output : ℕ) → judgedDownmix channels samples len output ≡ Accepted
+    → (channels ≤ 16) × (len ≡ channels * samples) × (output ≡ samples)
 unfolding judgedDownmix
-downmix-of channels samples length output e =
+downmix-of channels samples len output e =
     let p = needed (samplesOk samples) BadIndex _ refl e in
     let q = needed (eqb output samples) BadLength _ refl (p .1) in
-    let r = judged-of channels samples length Accepted (q .1) in
+    let r = judged-of channels samples len Accepted (q .1) in
     (r .0 .few, r .1, eqb-true _ _ (q .0))
 
 -- the channel lies within the buffer
-pub channel-of : (channels samples channel length : ℕ) → judgedChannel channels samples channel length ≡ Accepted
-    → channel * samples + samples ≤ length
-channel-of channels samples channel length e =
-    let p = judged-of channels samples length _ e in
+pub channel-of : (channels samples channel len : ℕ) → judgedChannel channels samples channel len ≡ Accepted
+    → channel * samples + samples ≤ len
+channel-of channels samples channel len e =
+    let p = judged-of channels samples len _ e in
     let q = needed (ltb channel channels) BadIndex Accepted refl (p .2) in
     omega (arith, row-ends channel channels samples (ltb-true _ _ (q .0)))
 

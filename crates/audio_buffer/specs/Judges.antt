@@ -16,21 +16,21 @@ samplesOk samples = leb samples 65536
 -- a slice that is to hold so many channels, before what `rest` judges: "4: channels 0 or above 16, too many samples", "3: a lent slice
 -- hasn't its exact length", and "A length that depends on a count refused with 4 isn't judged"
 unfoldable pub judgedThen : ℕ → ℕ → ℕ → Answer → Answer
-judgedThen channels samples length rest =
-    need (channelsOk channels && samplesOk samples) BadIndex (need (eqb length (channels * samples)) BadLength rest)
+judgedThen channels samples len rest =
+    need (channelsOk channels && samplesOk samples) BadIndex (need (eqb len (channels * samples)) BadLength rest)
 
 -- a call that is lent one buffer, and one that is lent two
 abbrev pub judged : ℕ → ℕ → ℕ → Answer
-judged channels samples length = judgedThen channels samples length Accepted
+judged channels samples len = judgedThen channels samples len Accepted
 
 abbrev pub judgedTwo : ℕ → ℕ → ℕ → ℕ → Answer
-judgedTwo channels samples length other = judgedThen channels samples length (judgedThen channels samples other Accepted)
+judgedTwo channels samples len other = judgedThen channels samples len (judgedThen channels samples other Accepted)
 
 -- downmix: the output's length depends on the samples alone, so it is judged before the channels
 unfoldable pub judgedDownmix : ℕ → ℕ → ℕ → ℕ → Answer
-judgedDownmix channels samples length output =
-    need (samplesOk samples) BadIndex (need (eqb output samples) BadLength (judgedThen channels samples length Accepted))
+judgedDownmix channels samples len output =
+    need (samplesOk samples) BadIndex (need (eqb output samples) BadLength (judgedThen channels samples len Accepted))
 
 -- "4: channel not below the count"
 abbrev pub judgedChannel : ℕ → ℕ → ℕ → ℕ → Answer
-judgedChannel channels samples channel length = judgedThen channels samples length (need (ltb channel channels) BadIndex Accepted)
+judgedChannel channels samples channel len = judgedThen channels samples len (need (ltb channel channels) BadIndex Accepted)

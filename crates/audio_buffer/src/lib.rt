@@ -48,33 +48,33 @@ fn channels_ok(channels: usize) -> bool
 }
 
 // Judges the counts, then the length of a slice that is to hold them, then what `rest` says.
-fn judge_then(channels: usize, samples: usize, length: usize, rest: Answer) -> Answer
-    ensures { λ r. ⌜ r ≡ judgedThen channels samples length rest ⌝ }
+fn judge_then(channels: usize, samples: usize, len: usize, rest: Answer) -> Answer
+    ensures { λ r. ⌜ r ≡ judgedThen channels samples len rest ⌝ }
 {
     if and(channels_ok(channels), samples <= MOST_SAMPLES) {
-        need(length == channels * samples, Answer::BadLength, rest)
+        need(len == channels * samples, Answer::BadLength, rest)
     } else {
         Answer::BadIndex
     }
 }
 
 // Judges a call that is lent two buffers of one size.
-fn judge_two(channels: usize, samples: usize, length: usize, other: usize) -> Answer
-    ensures { λ r. ⌜ r ≡ judgedTwo channels samples length other ⌝ }
+fn judge_two(channels: usize, samples: usize, len: usize, other: usize) -> Answer
+    ensures { λ r. ⌜ r ≡ judgedTwo channels samples len other ⌝ }
 {
     judge_then(
         channels,
         samples,
-        length,
+        len,
         judge_then(channels, samples, other, Answer::Accepted),
     )
 }
 
-// Judges a downmix of a buffer of `length` samples to an output of `output`.
-fn judge_downmix(channels: usize, samples: usize, length: usize, output: usize) -> Answer
-    ensures { λ r. ⌜ r ≡ judgedDownmix channels samples length output ⌝ }
+// Judges a downmix of a buffer of `len` samples to an output of `output`.
+fn judge_downmix(channels: usize, samples: usize, len: usize, output: usize) -> Answer
+    ensures { λ r. ⌜ r ≡ judgedDownmix channels samples len output ⌝ }
 {
-    let rest = judge_then(channels, samples, length, Answer::Accepted);
+    let rest = judge_then(channels, samples, len, Answer::Accepted);
     need(
         samples <= MOST_SAMPLES,
         Answer::BadIndex,
