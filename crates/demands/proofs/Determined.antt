@@ -105,6 +105,36 @@ use Rattle.wire.proofs.decode.Kinds as wire-decode-kinds
 use Rattle.wire.proofs.decode.Reads as wire-decode-reads
 use Rattle.wire.proofs.encode.Kinds as wire-encode-kinds
 use Rattle.wire.proofs.encode.Reads as wire-encode-reads
+use Rattle.unit.proofs.judge.Kinds as unit-judge-kinds
+use Rattle.unit.proofs.judge.Reads as unit-judge-reads
+use Rattle.unit.proofs.judge_fresh.Kinds as unit-judge-fresh-kinds
+use Rattle.unit.proofs.judge_fresh.Reads as unit-judge-fresh-reads
+use Rattle.unit.proofs.judge_reset.Kinds as unit-judge-reset-kinds
+use Rattle.unit.proofs.judge_reset.Reads as unit-judge-reset-reads
+use Rattle.unit.proofs.judge_tail.Kinds as unit-judge-tail-kinds
+use Rattle.unit.proofs.judge_tail.Reads as unit-judge-tail-reads
+use Rattle.unit.proofs.judge_apply.Kinds as unit-judge-apply-kinds
+use Rattle.unit.proofs.judge_apply.Reads as unit-judge-apply-reads
+use Rattle.unit.proofs.judge_given.Kinds as unit-judge-given-kinds
+use Rattle.unit.proofs.judge_given.Reads as unit-judge-given-reads
+use Rattle.unit.proofs.fresh_state.Kinds as unit-fresh-state-kinds
+use Rattle.unit.proofs.fresh_state.Reads as unit-fresh-state-reads
+use Rattle.unit.proofs.in_range.Kinds as unit-in-range-kinds
+use Rattle.unit.proofs.in_range.Reads as unit-in-range-reads
+use Rattle.unit.proofs.store_ok.Kinds as unit-store-ok-kinds
+use Rattle.unit.proofs.store_ok.Reads as unit-store-ok-reads
+use Rattle.unit.proofs.work_ok.Kinds as unit-work-ok-kinds
+use Rattle.unit.proofs.work_ok.Reads as unit-work-ok-reads
+use Rattle.frame.proofs.pass_stage.Kinds as frame-pass-stage-kinds
+use Rattle.frame.proofs.pass_stage.Reads as frame-pass-stage-reads
+use Rattle.frame.proofs.add_first.Kinds as frame-add-first-kinds
+use Rattle.frame.proofs.add_first.Reads as frame-add-first-reads
+use Rattle.frame.proofs.divide.Kinds as frame-divide-kinds
+use Rattle.frame.proofs.divide.Reads as frame-divide-reads
+use Rattle.frame.proofs.copy.Kinds as frame-copy-kinds
+use Rattle.frame.proofs.copy.Reads as frame-copy-reads
+use Rattle.frame.proofs.filters_finite.Kinds as frame-filters-finite-kinds
+use Rattle.frame.proofs.filters_finite.Reads as frame-filters-finite-reads
 
 -- ---- samples
 
@@ -322,3 +352,52 @@ wire-decode-out κs a x y s t p q = p ∙ sym (q)
 
 pub wire-encode-out : OneExit 2 wire-encode-kinds.ps wire-encode-kinds.r wire-encode-reads.Post (λ κs s. s .1 .0 .now)
 wire-encode-out κs a x y s t p q = p ∙ sym (q)
+
+-- ---- unit
+
+pub unit-judge : OneResult 0 unit-judge-kinds.ps unit-judge-kinds.r unit-judge-reads.Post
+unit-judge κs a x y s t p q = p ∙ sym (q)
+
+pub unit-judge-fresh : OneResult 0 unit-judge-fresh-kinds.ps unit-judge-fresh-kinds.r unit-judge-fresh-reads.Post
+unit-judge-fresh κs a x y s t p q = p ∙ sym (q)
+
+pub unit-judge-reset : OneResult 0 unit-judge-reset-kinds.ps unit-judge-reset-kinds.r unit-judge-reset-reads.Post
+unit-judge-reset κs a x y s t p q = p ∙ sym (q)
+
+pub unit-judge-tail : OneResult 0 unit-judge-tail-kinds.ps unit-judge-tail-kinds.r unit-judge-tail-reads.Post
+unit-judge-tail κs a x y s t p q = p ∙ sym (q)
+
+pub unit-judge-apply : OneResult 2 unit-judge-apply-kinds.ps unit-judge-apply-kinds.r unit-judge-apply-reads.Post
+unit-judge-apply κs a x y s t p q = p ∙ sym (q)
+
+pub unit-judge-given : OneResult 2 unit-judge-given-kinds.ps unit-judge-given-kinds.r unit-judge-given-reads.Post
+unit-judge-given κs a x y s t p q = p ∙ sym (q)
+
+pub unit-fresh-state : OneResult 0 unit-fresh-state-kinds.ps unit-fresh-state-kinds.r unit-fresh-state-reads.Post
+unit-fresh-state κs a x y s t p q = p ∙ sym (q)
+
+pub unit-in-range : OneResult 0 unit-in-range-kinds.ps unit-in-range-kinds.r unit-in-range-reads.Post
+unit-in-range κs a x y s t p q = p ∙ sym (q)
+
+pub unit-store-ok : OneResult 0 unit-store-ok-kinds.ps unit-store-ok-kinds.r unit-store-ok-reads.Post
+unit-store-ok κs a x y s t p q = p ∙ sym (q)
+
+pub unit-work-ok : OneResult 0 unit-work-ok-kinds.ps unit-work-ok-kinds.r unit-work-ok-reads.Post
+unit-work-ok κs a x y s t p q = p ∙ sym (q)
+
+-- ---- frame
+
+pub frame-pass-stage-w : OneExit 1 frame-pass-stage-kinds.ps frame-pass-stage-kinds.r frame-pass-stage-reads.Post (λ κs s. s .0 .now)
+frame-pass-stage-w κs a x y s t p q = p ∙ sym (q)
+
+pub frame-add-first-rows : OneExit 1 frame-add-first-kinds.ps frame-add-first-kinds.r frame-add-first-reads.Post (λ κs s. s .0 .now)
+frame-add-first-rows κs a x y s t p q = p ∙ sym (q)
+
+pub frame-divide-xs : OneExit 1 frame-divide-kinds.ps frame-divide-kinds.r frame-divide-reads.Post (λ κs s. s .0 .now)
+frame-divide-xs κs a x y s t p q = p ∙ sym (q)
+
+pub frame-copy-dst : OneExit 2 frame-copy-kinds.ps frame-copy-kinds.r frame-copy-reads.Post (λ κs s. s .1 .0 .now)
+frame-copy-dst κs a x y s t p q = p ∙ sym (q)
+
+pub frame-filters-finite : OneResult 0 frame-filters-finite-kinds.ps frame-filters-finite-kinds.r frame-filters-finite-reads.Post
+frame-filters-finite κs a x y s t p q = p ∙ sym (q)

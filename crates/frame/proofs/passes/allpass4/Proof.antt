@@ -1,0 +1,29 @@
+-- `frame::passes::allpass4` meets its contract. Assumes nothing.
+use borrow.Author.Needs.{needs}
+use Rattle.frame.proofs.passes.allpass4.Statement.{statement}
+use Rattle.frame.proofs.passes.allpass4.Tie as tie
+
+allpass-requires : tie.Need-allpass-requires
+allpass-requires c κs = search needs
+
+allpass-requires-2 : tie.Need-allpass-requires-2
+allpass-requires-2 c κs = search needs
+
+allpass-requires-3 : tie.Need-allpass-requires-3
+allpass-requires-3 c κs = search needs
+
+allpass-requires-4 : tie.Need-allpass-requires-4
+allpass-requires-4 c κs = search needs
+
+returns : tie.Need-returns
+returns c =
+    let one = c .before .before .before .allpass .ensures in
+    let two = c .before .before .allpass2 .ensures in
+    let three = c .before .allpass3 .ensures in
+    let four = c .allpass4 .ensures in
+    λ i. record { 0 = one i; 1 = two i; 2 = three i; 3 = four i }
+
+pub allpass4-spec : {M : Type 1} → statement M
+allpass4-spec =
+    tie.close
+    (tie.spec allpass-requires allpass-requires-2 allpass-requires-3 allpass-requires-4 returns)

@@ -1,0 +1,70 @@
+-- `frame::rows::filters_finite` meets its contract. The invariant: the first i are tested. Assumes nothing.
+use borrow.Author.Needs.{needs}
+use native.Mathlib.Omega.{arith}
+use mathlib.Core.Path.{_≡_, refl}
+use Prim.Native.Nat.{_-_, _≤_, _<_}
+use lib.ListN.{length, take}
+use Rattle.samples.specs.Lists.{allFrom}
+use Rattle.samples.proofs.Laws.{all-more, all-end}
+use Rattle.iir.specs.Nine.{finiteFilter}
+use Rattle.frame.specs.Settle.{filtersFinite}
+use Rattle.frame.proofs.rows.filters_finite.Statement.{statement}
+use Rattle.frame.proofs.rows.filters_finite.Tie as tie
+
+abbrev Inv-loop : tie.InvT-loop
+Inv-loop fs ok₀ i₀ ok i = (i ≤ 51) × (ok ≡ allFrom (λ k f. finiteFilter f) 0 (take i fs))
+
+abbrev μ-loop : tie.MeasureT-loop
+μ-loop fs ok₀ i₀ ok i = 51 - i
+
+loop-holds : tie.Need-loop-holds Inv-loop μ-loop
+loop-holds c = (search needs, refl)
+
+mul-f : tie.Need-mul-f Inv-loop μ-loop
+mul-f c = search needs
+
+array-copy-out-f : tie.Need-array-copy-out-f Inv-loop μ-loop
+array-copy-out-f c = search needs
+
+is-finite-requires : tie.Need-is-finite-requires Inv-loop μ-loop
+is-finite-requires c κs = search needs
+
+and-requires : tie.Need-and-requires Inv-loop μ-loop
+and-requires c κs = search needs
+
+add-i : tie.Need-add-i Inv-loop μ-loop
+add-i c = search needs
+
+loop-less : tie.Need-loop-less Inv-loop μ-loop
+loop-less c = search needs
+
+loop-again : tie.Need-loop-again Inv-loop μ-loop
+loop-again c =
+    let at = c .before .before .before .before in
+    let xs = at .before .args .t1 in
+    let h : at .loop .i < length xs = search needs in
+    (omega arith, all-more (λ k f. finiteFilter f) xs (at .loop .i) _ (at .loop .ok) _ _ h (at .loop .inv .1) (c .before .is-finite .ensures) (c .and .ensures))
+
+returns : tie.Need-returns Inv-loop μ-loop
+unfolding filtersFinite
+returns c =
+    let at = c .before in
+    let xs = at .before .args .t1 in
+    let h : length xs ≤ at .loop .i = search needs in
+    all-end (λ k f. finiteFilter f) xs (at .loop .i) (at .loop .ok) (at .loop .inv .1) h
+
+pub filters-finite-spec : {M : Type 1} → statement M
+filters-finite-spec =
+    tie.close
+    (tie.spec
+    Inv-loop
+    μ-loop
+    loop-holds
+    mul-f
+    array-copy-out-f
+    is-finite-requires
+    and-requires
+    add-i
+    loop-less
+    loop-again
+    returns)

@@ -1,0 +1,14 @@
+-- The wall unit's sizes are document 01's: "Store: exactly 7,600 + 16F floats. Work: exactly 34F + 1,348." Assumes nothing.
+use mathlib.Core.Path.{_≡_}
+use Prim.Native.Nat.{ℕ, _+_, _*_}
+use native.Mathlib.Omega.{arith}
+use Rattle.unit.specs.Model.{wall}
+use Rattle.unit.specs.Sizes.{lengthsFrom, total, storeLen, workLen}
+
+pub store-is : (f : ℕ) → storeLen wall f ≡ 7600 + 16 * f
+unfolding storeLen total lengthsFrom
+store-is f = omega arith
+
+pub work-is : (f : ℕ) → workLen wall f ≡ 1348 + 34 * f
+unfolding workLen total
+work-is f = omega arith

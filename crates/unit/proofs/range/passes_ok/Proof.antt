@@ -1,0 +1,80 @@
+-- `unit::range::passes_ok` meets its contract. The invariant: the first i are tested. Assumes nothing.
+use borrow.Author.Needs.{needs}
+use native.Mathlib.Omega.{arith}
+use mathlib.Core.Path.{_≡_, refl, ap, _∙_}
+use Prim.Native.Nat.{ℕ, _-_, _≤_, _<_}
+use lib.ListN.{length, take, getD}
+use Rattle.samples.specs.Lists.{allFrom}
+use Rattle.samples.proofs.Laws.{all-more, all-end}
+use native.Mathlib.Nat.{add-zero}
+use Rattle.delay.specs.Calls.{both}
+use Rattle.unit.specs.Model.{wall}
+use Rattle.unit.specs.Range.{below, passesOk}
+use Rattle.unit.proofs.range.passes_ok.Statement.{statement}
+use Rattle.unit.proofs.range.passes_ok.Tie as tie
+
+abbrev Inv-loop : tie.InvT-loop
+Inv-loop cs ok₀ i₀ ok i = (i ≤ 4) × (ok ≡ allFrom (λ i c. below (getD (wall .passes) i 0) c) 0 (take i cs))
+
+abbrev μ-loop : tie.MeasureT-loop
+μ-loop cs ok₀ i₀ ok i = 4 - i
+
+loop-holds : tie.Need-loop-holds Inv-loop μ-loop
+loop-holds c = (search needs, refl)
+
+mul-c : tie.Need-mul-c Inv-loop μ-loop
+mul-c c = search needs
+
+array-copy-out-c : tie.Need-array-copy-out-c Inv-loop μ-loop
+array-copy-out-c c = search needs
+
+mul-below : tie.Need-mul-below Inv-loop μ-loop
+mul-below c = search needs
+
+array-read-below : tie.Need-array-read-below Inv-loop μ-loop
+array-read-below c = search needs
+
+below-requires : tie.Need-below-requires Inv-loop μ-loop
+below-requires c κs = search needs
+
+and-requires : tie.Need-and-requires Inv-loop μ-loop
+and-requires c κs = search needs
+
+add-i : tie.Need-add-i Inv-loop μ-loop
+add-i c = search needs
+
+loop-less : tie.Need-loop-less Inv-loop μ-loop
+loop-less c = search needs
+
+loop-again : tie.Need-loop-again Inv-loop μ-loop
+loop-again c =
+    let at = c .before .before .before .before in
+    let xs = at .before .args .t1 in
+    let h : at .loop .i < length xs = search needs in
+    (omega arith, all-more (λ i c. below (getD (wall .passes) i 0) c) xs (at .loop .i) (both 0) (at .loop .ok) _ _ h (at .loop .inv .1) (c .before .below .ensures ∙ ap (λ (l : ℕ). below l (getD xs (at .loop .i) (both 0))) (add-zero (getD (wall .passes) (at .loop .i) 0))) (c .and .ensures))
+
+returns : tie.Need-returns Inv-loop μ-loop
+unfolding passesOk
+returns c =
+    let at = c .before in
+    let xs = at .before .args .t1 in
+    let h : length xs ≤ at .loop .i = search needs in
+    all-end (λ i c. below (getD (wall .passes) i 0) c) xs (at .loop .i) (at .loop .ok) (at .loop .inv .1) h
+
+pub passes-ok-spec : {M : Type 1} → statement M
+passes-ok-spec =
+    tie.close
+    (tie.spec
+    Inv-loop
+    μ-loop
+    loop-holds
+    mul-c
+    array-copy-out-c
+    mul-below
+    array-read-below
+    below-requires
+    and-requires
+    add-i
+    loop-less
+    loop-again
+    returns)

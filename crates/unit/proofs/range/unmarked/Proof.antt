@@ -1,0 +1,62 @@
+-- `unit::range::unmarked` meets its contract. The invariant: the first i are tested. Assumes nothing.
+use borrow.Author.Needs.{needs}
+use native.Mathlib.Omega.{arith}
+use mathlib.Core.Path.{_≡_, refl}
+use Prim.Native.Nat.{_-_, _≤_, _<_}
+use lib.ListN.{length, take}
+use Rattle.samples.specs.Lists.{allFrom}
+use Rattle.samples.proofs.Laws.{all-more, all-end}
+use mathlib.Core.Bool.{not, false}
+use Rattle.unit.specs.Range.{unmarked}
+use Rattle.unit.proofs.range.unmarked.Statement.{statement}
+use Rattle.unit.proofs.range.unmarked.Tie as tie
+
+abbrev Inv-loop : tie.InvT-loop
+Inv-loop marks ok₀ i₀ ok i = (i ≤ 34) × (ok ≡ allFrom (λ k done. not done) 0 (take i marks))
+
+abbrev μ-loop : tie.MeasureT-loop
+μ-loop marks ok₀ i₀ ok i = 34 - i
+
+loop-holds : tie.Need-loop-holds Inv-loop μ-loop
+loop-holds c = (search needs, refl)
+
+array-read-m : tie.Need-array-read-m Inv-loop μ-loop
+array-read-m c = search needs
+
+and-requires : tie.Need-and-requires Inv-loop μ-loop
+and-requires c κs = search needs
+
+add-i : tie.Need-add-i Inv-loop μ-loop
+add-i c = search needs
+
+loop-less : tie.Need-loop-less Inv-loop μ-loop
+loop-less c = search needs
+
+loop-again : tie.Need-loop-again Inv-loop μ-loop
+loop-again c =
+    let at = c .before .before in
+    let xs = at .before .args .t1 in
+    let h : at .loop .i < length xs = search needs in
+    (omega arith, all-more (λ k done. not done) xs (at .loop .i) false (at .loop .ok) _ _ h (at .loop .inv .1) (refl) (c .and .ensures))
+
+returns : tie.Need-returns Inv-loop μ-loop
+unfolding unmarked
+returns c =
+    let at = c .before in
+    let xs = at .before .args .t1 in
+    let h : length xs ≤ at .loop .i = search needs in
+    all-end (λ k done. not done) xs (at .loop .i) (at .loop .ok) (at .loop .inv .1) h
+
+pub unmarked-spec : {M : Type 1} → statement M
+unmarked-spec =
+    tie.close
+    (tie.spec
+    Inv-loop
+    μ-loop
+    loop-holds
+    array-read-m
+    and-requires
+    add-i
+    loop-less
+    loop-again
+    returns)

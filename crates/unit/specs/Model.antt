@@ -1,0 +1,24 @@
+-- What one model of the unit is built of. Every definition above this one is over any model.
+use Prim.Native.Nat.{ℕ}
+use mathlib.Core.List.{List, [], _∷_}
+use lib.Ieee.{Float, binary32, ofBits}
+use Rattle.primes.specs.Table.{delayAt}
+
+-- how many lines; the delay of each, which its ring exceeds by a frame; the lengths of the allpass rings x0, y0, x1, y1; the factor of
+-- the mix, and what the sum of the lines is divided by
+pub record Model : Type 0 where
+  pub lines : ℕ
+  pub delay : ℕ → ℕ
+  pub passes : List ℕ
+  pub factor : Float
+  pub divisor : Float
+
+-- the wall unit: "Allpass stage 0: x ring 225, y ring 341. Stage 1: x ring 341, y ring 441." 0x3e80_0000 is 0.25 and 0x4180_0000 is 16
+abbrev pub wall : Model
+wall = record {
+  lines = 16;
+  delay = delayAt;
+  passes = 225 ∷ 341 ∷ 341 ∷ 441 ∷ [];
+  factor = ofBits binary32 0x3e80_0000;
+  divisor = ofBits binary32 0x4180_0000;
+}

@@ -1,0 +1,46 @@
+-- When a state is in range.
+use Prim.Native.Nat.{ℕ, zero, suc, _+_}
+use mathlib.Core.Bool.{Bool, true, false, not, _&&_, _||_}
+use mathlib.Core.List.{List}
+use lib.Dec.{ltb}
+use lib.IntN.{ℤ, pos, negsuc}
+use lib.ListN.{getD}
+use Rattle.samples.specs.Lists.{allFrom}
+use Rattle.samples.specs.Sizes.{rateOk, frameOk}
+use Rattle.delay.specs.declared.Cursors.{Cursors}
+use Rattle.iir.specs.declared.Filter.{Filter}
+use Rattle.iir.specs.Nine.{blankFilter}
+use Rattle.unit.specs.Hall.{Hall}
+use Rattle.unit.specs.Model.{Model}
+
+-- "every cursor is below its ring's length"
+unfoldable pub below : ℕ → Cursors → Bool
+below l c = ltb (c .read .0) l && ltb (c .write .0) l
+
+unfoldable pub linesOk : Model → ℕ → List Cursors → Bool
+linesOk m f cs = allFrom (λ i c. below (m .delay i + f) c) 0 cs
+
+unfoldable pub passesOk : Model → List Cursors → Bool
+passesOk m cs = allFrom (λ i c. below (getD (m .passes) i 0) c) 0 cs
+
+abbrev pub isZero : ℤ → Bool
+isZero (pos zero) = true
+isZero (pos (suc n)) = false
+isZero (negsuc n) = false
+
+unfoldable pub unmarked : List Bool → Bool
+unmarked ms = allFrom (λ k done. not done) 0 ms
+
+unfoldable pub blankFilters : List Filter → Bool
+blankFilters fs = allFrom (λ k f. blankFilter f) 0 fs
+
+-- "all that is held for one is blank: kind apply, no job marked, count 0, filters all +0"
+unfoldable pub blankOpen : Hall → Bool
+blankOpen u = not (u .tail) && (isZero (u .next) && (unmarked (u .marks) && blankFilters (u .before)))
+
+-- "It is in range when rate and F are, every cursor is below its ring's length, and, while no frame is open, all that is held for one is blank"
+unfoldable pub inRange : Model → Hall → Bool
+inRange m u =
+    (rateOk (u .rate) && frameOk (u .frame))
+    && ((linesOk m (u .frame) (u .lines) && passesOk m (u .passes))
+    && (u .busy || blankOpen u))

@@ -1,0 +1,48 @@
+-- How much memory a unit is lent.
+use Prim.Native.Nat.{ℕ, zero, suc, _+_, _*_}
+use mathlib.Core.Path.{_≡_}
+use mathlib.Core.List.{List, [], _∷_}
+use lib.ListN.{length}
+use Rattle.unit.specs.Hall.{Hall}
+use Rattle.unit.specs.Model.{Model}
+
+-- "line i has length D[i mod 4] + F": the rings of n lines more, from line i on
+unfoldable pub lengthsFrom : Model → ℕ → ℕ → ℕ → List ℕ
+lengthsFrom m f zero i = []
+lengthsFrom m f (suc n) i = (m .delay i + f) ∷ lengthsFrom m f n (i + 1)
+
+abbrev pub lineLengths : Model → ℕ → List ℕ
+lineLengths m f = lengthsFrom m f (m .lines) 0
+
+unfoldable pub total : List ℕ → ℕ
+total [] = 0
+total (l ∷ ls) = l + total ls
+
+-- the store is the lines' rings, one after the other, and then the allpass rings: "exactly 7,600 + 16F floats"
+unfoldable pub storeLen : Model → ℕ → ℕ
+storeLen m f = total (lineLengths m f) + total (m .passes)
+
+-- the work memory is rows of F floats, one for the input, one a line read, one a line mixed and one for the output, and then the
+-- allpass rings: "exactly 34F + 1,348"
+unfoldable pub workLen : Model → ℕ → ℕ
+workLen m f = (m .lines + m .lines + 2) * f + total (m .passes)
+
+-- three band filters a line, and three of the tone
+abbrev pub filtersLen : Model → ℕ
+filtersLen m = 3 * m .lines + 3
+
+-- "255 coefficients come from the host, five per filter"
+abbrev pub coefficientsLen : Model → ℕ
+coefficientsLen m = 5 * filtersLen m
+
+-- the jobs of a frame: a read and a line job for each line, the mix and the output
+abbrev pub jobsLen : Model → ℕ
+jobsLen m = m .lines + m .lines + 2
+
+-- the lists of a unit of model m are as long as the model says: a `State`'s are
+pub record Sized (m : Model) (u : Hall) : Type 0 where
+  pub lines : length (u .lines) ≡ m .lines
+  pub passes : length (u .passes) ≡ length (m .passes)
+  pub filters : length (u .filters) ≡ filtersLen m
+  pub marks : length (u .marks) ≡ jobsLen m
+  pub before : length (u .before) ≡ filtersLen m

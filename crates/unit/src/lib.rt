@@ -1,0 +1,67 @@
+// The unit's state by value, the sizes of the memory that it is lent, when it is in range, and what
+// is due of a call.
+//
+// Its contracts cite `specs/`, over any model of the unit: the code here is the wall unit's.
+mod judges;
+mod range;
+mod sizes;
+
+pub use judges::judge;
+pub use judges::judge_apply;
+pub use judges::judge_fresh;
+pub use judges::judge_given;
+pub use judges::judge_reset;
+pub use judges::judge_tail;
+pub use range::in_range;
+pub use sizes::PASSES;
+pub use sizes::store_ok;
+pub use sizes::work_ok;
+ghost use mathlib.Core.Path.{_≡_};
+ghost use Rattle.unit.specs.Hall.{toState};
+ghost use Rattle.unit.specs.Fresh.{freshHall};
+ghost use Rattle.unit.specs.Model.{wall};
+use delay::Cursors;
+use iir::Filter;
+use samples::Frames;
+use samples::Samples;
+
+// All that the unit keeps beside its store. `busy` says that a frame is open; `tail`, `marks`,
+// `next` and `before` are held for that frame alone.
+#[repr(C)]
+pub struct State {
+    pub rate: u32,
+    pub frame: usize,
+    pub lines: [Cursors; 16],
+    pub passes: [Cursors; 4],
+    pub count: Frames,
+    pub filters: [Filter; 51],
+    pub busy: bool,
+    pub tail: bool,
+    pub marks: [bool; 34],
+    pub next: Frames,
+    pub before: [Filter; 51],
+}
+
+// The state of a unit in which nothing has sounded yet.
+pub fn fresh_state(rate: u32, frame: usize) -> State
+    ensures { λ r. ⌜ r ≡ toState (freshHall wall rate frame) ⌝ }
+{
+    let start = Cursors {
+        read: Samples(0),
+        write: Samples(0),
+    };
+    let blank = iir::new_from_coefficients(0.0, 0.0, 0.0, 0.0, 0.0);
+    State {
+        rate,
+        frame,
+        lines: [start; 16],
+        passes: [start; 4],
+        count: Frames(0),
+        filters: [blank; 51],
+        busy: false,
+        tail: false,
+        marks: [false; 34],
+        next: Frames(0),
+        before: [blank; 51],
+    }
+}

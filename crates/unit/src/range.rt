@@ -1,0 +1,126 @@
+// When a state is in range.
+use crate::State;
+use crate::sizes::PASSES;
+use delay::Cursors;
+use iir::Filter;
+use samples::Frames;
+use samples::and;
+use samples::frame_ok;
+use samples::rate_ok;
+ghost use mathlib.Core.Path.{_≡_};
+ghost use mathlib.Core.Bool.{_||_};
+ghost use Prim.Native.Nat.{_+_};
+ghost use lib.Dec.{ltb};
+ghost use Rattle.unit.specs.Hall.{ofState};
+ghost use Rattle.unit.specs.Model.{wall};
+ghost use Rattle.unit.specs.Range.{below, linesOk, passesOk, isZero, unmarked, blankFilters, blankOpen, inRange};
+
+// Whether a state is one that the unit's calls take.
+pub fn in_range(s: State) -> bool
+    ensures { λ r. ⌜ r ≡ inRange wall (ofState s) ⌝ }
+{
+    let rate = s.rate;
+    let frame = s.frame;
+    let lines = s.lines;
+    let passes = s.passes;
+    let busy = s.busy;
+    and(
+        and(rate_ok(rate), frame_ok(frame)),
+        and(
+            and(lines_ok(lines, frame), passes_ok(passes)),
+            or(busy, blank_open(s)),
+        ),
+    )
+}
+
+// Whether nothing is held for an open frame.
+fn blank_open(s: State) -> bool
+    ensures { λ r. ⌜ r ≡ blankOpen (ofState s) ⌝ }
+{
+    let tail = s.tail;
+    let next = s.next;
+    let marks = s.marks;
+    let before = s.before;
+    and(
+        !tail,
+        and(is_zero(next), and(unmarked(marks), blank_filters(before))),
+    )
+}
+
+// Whether both cursors of each line are within its ring.
+fn lines_ok(cs: [Cursors; 16], frame: usize) -> bool
+    ensures { λ r. ⌜ r ≡ linesOk wall frame cs ⌝ }
+{
+    let mut ok = true;
+    for i in 0..16usize {
+        let c = cs[i];
+        ok = and(ok, below(c, primes::delay(i), frame));
+    }
+    ok
+}
+
+// Whether both cursors of each allpass ring are within it.
+fn passes_ok(cs: [Cursors; 4]) -> bool
+    ensures { λ r. ⌜ r ≡ passesOk wall cs ⌝ }
+{
+    let mut ok = true;
+    for i in 0..4usize {
+        let c = cs[i];
+        ok = and(ok, below(c, PASSES[i], 0));
+    }
+    ok
+}
+
+// Whether no job is marked.
+fn unmarked(marks: [bool; 34]) -> bool
+    ensures { λ r. ⌜ r ≡ unmarked marks ⌝ }
+{
+    let mut ok = true;
+    for i in 0..34usize {
+        let m = marks[i];
+        ok = and(ok, !m);
+    }
+    ok
+}
+
+// Whether every filter is nine times +0.
+fn blank_filters(fs: [Filter; 51]) -> bool
+    ensures { λ r. ⌜ r ≡ blankFilters fs ⌝ }
+{
+    let mut ok = true;
+    for i in 0..51usize {
+        let f = fs[i];
+        ok = and(ok, iir::is_blank(f));
+    }
+    ok
+}
+
+// Whether both cursors are below a length of `delay` and `frame`.
+fn below(c: Cursors, delay: usize, frame: usize) -> bool
+    ensures { λ r. ⌜ r ≡ below (delay + frame) c ⌝ }
+{
+    let read = c.read.0;
+    let write = c.write.0;
+    and(less(read, delay, frame), less(write, delay, frame))
+}
+
+// Whether k is below a + b, a sum that may not fit.
+fn less(k: usize, a: usize, b: usize) -> bool
+    ensures { λ r. ⌜ r ≡ ltb k (a + b) ⌝ }
+{
+    if k < a { true } else { k - a < b }
+}
+
+// Whether a count of frames is 0.
+fn is_zero(n: Frames) -> bool
+    ensures { λ r. ⌜ r ≡ isZero (n .0) ⌝ }
+{
+    n.0 == 0
+}
+
+// One test or the other.
+fn or(a: bool, b: bool) -> bool
+    ensures { λ r. ⌜ r ≡ (a || b) ⌝ }
+{
+    if a { true } else { b }
+}
