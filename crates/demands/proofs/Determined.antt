@@ -135,6 +135,10 @@ use Rattle.frame.proofs.copy.Kinds as frame-copy-kinds
 use Rattle.frame.proofs.copy.Reads as frame-copy-reads
 use Rattle.frame.proofs.filters_finite.Kinds as frame-filters-finite-kinds
 use Rattle.frame.proofs.filters_finite.Reads as frame-filters-finite-reads
+use Rattle.reverb.proofs.fresh.Kinds as reverb-fresh-kinds
+use Rattle.reverb.proofs.fresh.Reads as reverb-fresh-reads
+use Rattle.reverb.proofs.reset.Kinds as reverb-reset-kinds
+use Rattle.reverb.proofs.reset.Reads as reverb-reset-reads
 
 -- ---- samples
 
@@ -401,3 +405,17 @@ frame-copy-dst κs a x y s t p q = p ∙ sym (q)
 
 pub frame-filters-finite : OneResult 0 frame-filters-finite-kinds.ps frame-filters-finite-kinds.r frame-filters-finite-reads.Post
 frame-filters-finite κs a x y s t p q = p ∙ sym (q)
+
+-- ---- reverb
+
+pub reverb-fresh : OneResult 1 reverb-fresh-kinds.ps reverb-fresh-kinds.r reverb-fresh-reads.Post
+reverb-fresh κs a x y s t p q = p .0 ∙ sym (q .0)
+
+pub reverb-fresh-store : OneExit 1 reverb-fresh-kinds.ps reverb-fresh-kinds.r reverb-fresh-reads.Post (λ κs s. s .1 .1 .0 .now)
+reverb-fresh-store κs a x y s t p q = p .1 ∙ sym (q .1)
+
+pub reverb-reset : OneResult 1 reverb-reset-kinds.ps reverb-reset-kinds.r reverb-reset-reads.Post
+reverb-reset κs a x y s t p q = p .0 ∙ sym (q .0)
+
+pub reverb-reset-store : OneExit 1 reverb-reset-kinds.ps reverb-reset-kinds.r reverb-reset-reads.Post (λ κs s. s .1 .0 .now)
+reverb-reset-store κs a x y s t p q = p .1 ∙ sym (q .1)

@@ -1,0 +1,169 @@
+-- The rings of the lines in a store: row i of what is read comes from ring i, and row i of what is put goes there. Assumes nothing.
+use Prim.Native.Nat.{ℕ, zero, suc, _+_, _*_, _-_, _<_, _≤_}
+use mathlib.Core.Path.{_≡_, refl, sym, ap, _∙_}
+use mathlib.Core.Bool.{Bool, true, false, cond}
+use mathlib.Core.List.{List, [], _∷_, _++_}
+use native.Mathlib.Nat.{add-zero, zero-add, suc-mul, not-suc-le-zero, le-of-eq}
+use native.Mathlib.Omega.{arith}
+use lib.Ieee.{Float}
+use lib.ListN.{length, getD, take, drop, replicate, length-take, length-drop, length-replicate, replicate-append-replicate}
+use lib.Seq.{take-at, drop-at, take-all}
+use Rattle.delay.specs.declared.Cursors.{Cursors}
+use Rattle.delay.specs.Calls.{both}
+use Rattle.delay.specs.Ring.{read, write}
+use Rattle.delay.proofs.Laws.{length-read, length-write}
+use Rattle.iir.specs.declared.Filter.{Filter}
+use Rattle.hadamard.specs.Rows.{mixedRows}
+use Rattle.hadamard.proofs.Laws.{rows-length}
+use Rattle.unit.specs.Model.{Model}
+use Rattle.unit.specs.Sizes.{lengthsFrom, lineLengths, total}
+use Rattle.frame.specs.Lines.{readRows, bandRows}
+use Rattle.frame.specs.Frame.{lineRows}
+use Rattle.frame.specs.Settle.{putRows, movedBy, allMoved}
+use Rattle.frame.proofs.RowLaws.{Held, total-more, length-bandRows, length-addRows}
+use Rattle.demands.specs.LineLaw.{row}
+
+-- ring i of those from line j on, which the store holds one after the other
+abbrev pub ringAt : List ℕ → ℕ → ℕ → List Float → List Float
+ringAt ls j zero store = take (getD ls j 0) store
+ringAt ls j (suc i) store = ringAt ls (j + 1) i (drop (getD ls j 0) store)
+
+-- the line after i of those from j on is line i of those from j + 1 on
+on : (j i : ℕ) → j + suc i ≡ j + 1 + i
+on j i = omega arith
+
+-- ---- a row of rows
+
+pub row-long : (f n i : ℕ) (rows : List Float) → i < n → length rows ≡ n * f → length (row f i rows) ≡ f
+row-long f zero i rows h e = absurd (not-suc-le-zero h)
+row-long f (suc n) zero rows h e = simp length-take (omega (arith, suc-mul n f))
+row-long f (suc n) (suc i) rows h e = row-long f n i (drop f rows) (omega arith) (simp length-drop (omega (arith, suc-mul n f)))
+
+-- ---- a list of one sample, cut
+
+cut-same : (a : Float) (l n : ℕ) → l ≤ n → (take l (replicate n a) ≡ replicate l a) × (drop l (replicate n a) ≡ replicate (n - l) a)
+cut-same a l n h =
+    let e : l + (n - l) ≡ n = omega arith in
+    let s : replicate n a ≡ replicate l a ++ replicate (n - l) a = sym (replicate-append-replicate l (n - l) a ∙ ap (λ (k : ℕ). replicate k a) e) in
+    let long = length-replicate l a in
+    (ap (take l) s ∙ take-at (replicate l a) (replicate (n - l) a) l long, ap (drop l) s ∙ drop-at (replicate l a) (replicate (n - l) a) l long)
+
+-- ---- rings of the lengths ls that hold f samples each, one after the other: the first, and then n more
+
+module _ (f : ℕ) (ls : List ℕ) where
+  held : (n j len : ℕ) → ((i : ℕ) → i < n → f ≤ getD ls (j + i) 0) → total (take n (drop j ls)) ≤ len → Held f n j ls len
+  held zero j len fits h = tt
+  held (suc n) j len fits h =
+      let t = total-more n j ls in
+      let here : f ≤ getD ls j 0 = rw add-zero at (fits 0 (omega arith)) in
+      (here, omega arith, held n (j + 1) (len - getD ls j 0) (λ i b. rw (on j i) at (fits (suc i) (omega arith))) (omega arith))
+
+  module _ (store : List Float) (n j : ℕ) where
+    first-long : Held f (suc n) j ls (length store) → length (take (getD ls j 0) store) ≡ getD ls j 0
+    first-long r = simp length-take (omega (arith, r .1))
+
+    rest-held : Held f (suc n) j ls (length store) → Held f n (j + 1) ls (length (drop (getD ls j 0) store))
+    rest-held r = rw (length-drop (getD ls j 0) store) (r .2)
+
+  pub ring-long : (n j i : ℕ) (store : List Float) → i < n → Held f n j ls (length store) → length (ringAt ls j i store) ≡ getD ls (j + i) 0
+  ring-long zero j i store h r = absurd (not-suc-le-zero h)
+  ring-long (suc n) j zero store h r = rw add-zero (first-long store n j r)
+  ring-long (suc n) j (suc i) store h r = rw (on j i) (ring-long n (j + 1) i (drop (getD ls j 0) store) (omega arith) (rest-held store n j r))
+
+  -- of a silent store
+  pub ring-same : (n j i len : ℕ) (a : Float) → i < n → Held f n j ls len → ringAt ls j i (replicate len a) ≡ replicate (getD ls (j + i) 0) a
+  ring-same zero j i len a h r = absurd (not-suc-le-zero h)
+  ring-same (suc n) j zero len a h r = rw add-zero (cut-same a (getD ls j 0) len (r .1) .0)
+  ring-same (suc n) j (suc i) len a h r =
+      rw (cut-same a (getD ls j 0) len (r .1) .1, on j i) (ring-same n (j + 1) i (len - getD ls j 0) a (omega arith) (r .2))
+
+  module _ (cs : List Cursors) where
+    -- ---- what is read of line i, and what is put there
+
+    first-read : (n j : ℕ) (store : List Float) → Held f (suc n) j ls (length store)
+        → length (read (take (getD ls j 0) store) (getD cs j (both 0) .read .0) f) ≡ f
+    first-read n j store r = length-read (take (getD ls j 0) store) (getD cs j (both 0) .read .0) f (omega (arith, r .0, first-long store n j r))
+
+    first-written : (n j : ℕ) (rows store : List Float) → Held f (suc n) j ls (length store)
+        → length (write (take (getD ls j 0) store) (getD cs j (both 0) .write .0) (take f rows)) ≡ getD ls j 0
+    first-written n j rows store r =
+        let e = first-long store n j r in
+        length-write (take (getD ls j 0) store) (take f rows) (getD cs j (both 0) .write .0) (simp length-take (omega (arith, r .0))) ∙ e
+
+    pub read-row : (n j i : ℕ) (store : List Float) → i < n → Held f n j ls (length store)
+        → row f i (readRows f n j ls cs store) ≡ read (ringAt ls j i store) (getD cs (j + i) (both 0) .read .0) f
+    unfolding readRows
+    read-row zero j i store h r = absurd (not-suc-le-zero h)
+    read-row (suc n) j zero store h r =
+        rw (add-zero, take-at _ _ f (first-read n j store r)) refl
+    read-row (suc n) j (suc i) store h r =
+        rw (on j i, drop-at _ _ f (first-read n j store r))
+        (read-row n (j + 1) i (drop (getD ls j 0) store) (omega arith) (rest-held store n j r))
+
+    pub put-row : (n j i : ℕ) (rows rings store : List Float) → i < n → Held f n j ls (length store)
+        → ringAt ls j i (putRows f n j ls cs rows rings store) ≡ write (ringAt ls j i store) (getD cs (j + i) (both 0) .write .0) (row f i rows)
+    unfolding putRows
+    put-row zero j i rows rings store h r = absurd (not-suc-le-zero h)
+    put-row (suc n) j zero rows rings store h r =
+        rw (add-zero, take-at _ _ (getD ls j 0) (first-written n j rows store r)) refl
+    put-row (suc n) j (suc i) rows rings store h r =
+        rw (on j i, drop-at _ _ (getD ls j 0) (first-written n j rows store r))
+        (put-row n (j + 1) i (drop f rows) rings (drop (getD ls j 0) store) (omega arith) (rest-held store n j r))
+
+-- ---- a model's lines
+
+module _ (m : Model) (f : ℕ) where
+  length-lengths : (n j : ℕ) → length (lengthsFrom m f n j) ≡ n
+  unfolding lengthsFrom
+  length-lengths zero j = refl
+  length-lengths (suc n) j = ap suc (length-lengths n (j + 1))
+
+  length-at : (n j i : ℕ) → i < n → getD (lengthsFrom m f n j) i 0 ≡ m .delay (j + i) + f
+  unfolding lengthsFrom
+  length-at zero j i h = absurd (not-suc-le-zero h)
+  length-at (suc n) j zero h = rw add-zero refl
+  length-at (suc n) j (suc i) h = rw (on j i) (length-at n (j + 1) i (omega arith))
+
+  pub lines-long : length (lineLengths m f) ≡ m .lines
+  lines-long = length-lengths (m .lines) 0
+
+  pub line-length : (i : ℕ) → i < m .lines → getD (lineLengths m f) i 0 ≡ m .delay i + f
+  line-length i h = rw zero-add at (length-at (m .lines) 0 i h)
+
+  pub lines-held : (len : ℕ) → total (lineLengths m f) ≤ len → Held f (m .lines) 0 (lineLengths m f) len
+  lines-held len h =
+      let ls = lineLengths m f in
+      let e : take (m .lines) ls ≡ ls = take-all (m .lines) ls (omega (arith, lines-long)) in
+      held f ls (m .lines) 0 len (λ i b. rw (zero-add i) (omega (arith, line-length i b))) (rw e h)
+
+-- ---- cursors
+
+pub length-moved : (f : ℕ) (ls : List ℕ) (cs : List Cursors) → length (allMoved f ls cs) ≡ length cs
+unfolding allMoved
+length-moved f [] cs = refl
+length-moved f (l ∷ ls) [] = refl
+length-moved f (l ∷ ls) (c ∷ cs) = ap suc (length-moved f ls cs)
+
+pub moved-at : (f : ℕ) (ls : List ℕ) (cs : List Cursors) (i : ℕ) → i < length ls → i < length cs
+    → getD (allMoved f ls cs) i (both 0) ≡ movedBy f (getD ls i 0) (getD cs i (both 0))
+unfolding allMoved
+moved-at f [] cs i h g = absurd (not-suc-le-zero h)
+moved-at f (l ∷ ls) [] i h g = absurd (not-suc-le-zero g)
+moved-at f (l ∷ ls) (c ∷ cs) zero h g = refl
+moved-at f (l ∷ ls) (c ∷ cs) (suc i) h g = moved-at f ls cs i (omega arith) (omega arith)
+
+-- ---- the rows put are as long as those read
+
+module _ (n f : ℕ) (k : Float) (fs : List Filter) (input reads : List Float) where
+  bands-long : let mixed = mixedRows n f k reads in
+      length (bandRows f n 2 fs (bandRows f n 1 fs (bandRows f n 0 fs mixed))) ≡ n * f
+  bands-long =
+      let mixed = mixedRows n f k reads in
+      let l0 = length-bandRows f n 0 fs mixed (le-of-eq (sym (rows-length n f k reads))) in
+      let l1 = length-bandRows f n 1 fs (bandRows f n 0 fs mixed) (le-of-eq (sym l0)) in
+      length-bandRows f n 2 fs (bandRows f n 1 fs (bandRows f n 0 fs mixed)) (le-of-eq (sym l1))
+
+  pub put-long : (tail : Bool) → cond tail f (length input) ≡ f → length (lineRows n f k tail fs input reads .put) ≡ n * f
+  unfolding lineRows
+  put-long true e = bands-long
+  put-long false e = length-addRows f n input _ e (le-of-eq (sym bands-long))

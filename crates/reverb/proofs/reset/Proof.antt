@@ -1,0 +1,75 @@
+-- `reverb::reset` meets its contract. Assumes nothing.
+use borrow.Author.Needs.{needs}
+use mathlib.Core.Path.{_∙_}
+use lib.IntN.{pos}
+use lib.ListN.{length, replicate}
+use denote.Ref.{now}
+use Rattle.samples.specs.Binary32.{+0}
+use Rattle.audio_buffer.specs.declared.AudioEffectState.the-variants.{TailComplete}
+use Rattle.unit.specs.Hall.{ofState}
+use Rattle.unit.specs.Model.{wall}
+use Rattle.unit.specs.Judges.{judgedReset}
+use Rattle.reverb.specs.Whole.{outcome, counted}
+use Rattle.reverb.proofs.Outcomes.{old-left, new-left}
+use Rattle.reverb.proofs.reset.Statement.{statement}
+use Rattle.reverb.proofs.reset.Tie as tie
+
+judge-reset-requires : tie.Need-judge-reset-requires
+judge-reset-requires c κs = search needs
+
+is-accepted-requires : tie.Need-is-accepted-requires
+is-accepted-requires c κs = search needs
+
+quiet-requires : tie.Need-quiet-requires
+quiet-requires c κs = search needs
+
+returns : tie.Need-returns
+returns c =
+    let tested = c .before in
+    let judge = tested .before .before in
+    let a = judge .before .before .args in
+    let b = judgedReset wall (ofState (a .s)) (length (now (a .store))) in
+    let e = judge .judge-reset .ensures in
+    let t = tested .before .is-accepted .ensures in
+    let h = tested .if1 .taken in
+    let old = ofState (a .s) in (
+      c .quiet .ensures ∙ (λ i. outcome (e i) (old-left _ b _ e t (counted old (pos 0)) old h i) TailComplete),
+      old-left _ b _ e t (replicate (length (now (a .store))) +0) (now (a .store)) h,
+    )
+
+clear-requires : tie.Need-clear-requires
+clear-requires c κs = search needs
+
+quiet-requires-2 : tie.Need-quiet-requires-2
+quiet-requires-2 c κs = search needs
+
+same-length : tie.Need-same-length
+same-length c = search needs
+
+returns-2 : tie.Need-returns-2
+returns-2 c =
+    let cleared = c .before .before .before in
+    let tested = cleared .before .before in
+    let judge = tested .before .before in
+    let a = judge .before .before .args in
+    let b = judgedReset wall (ofState (a .s)) (length (now (a .store))) in
+    let e = judge .judge-reset .ensures in
+    let t = tested .before .is-accepted .ensures in
+    let h = tested .if1 .left in
+    let old = ofState (a .s) in (
+      c .quiet2 .ensures ∙ (λ i. outcome (e i) (new-left _ b _ e t (counted old (pos 0)) old h i) TailComplete),
+      cleared .clear .ensures ∙ new-left _ b _ e t (replicate (length (now (a .store))) +0) (now (a .store)) h,
+    )
+
+pub reset-spec : {M : Type 1} → statement M
+reset-spec =
+    tie.close
+    (tie.spec
+    judge-reset-requires
+    is-accepted-requires
+    quiet-requires
+    returns
+    clear-requires
+    quiet-requires-2
+    same-length
+    returns-2)

@@ -1,0 +1,106 @@
+-- The whole calls: what each answers, and what it leaves of the state, the store, the work memory and the output.
+use Prim.Native.Nat.{ℕ}
+use mathlib.Core.Bool.{true, false}
+use mathlib.Core.List.{List, []}
+use lib.Ieee.{Float}
+use lib.IntN.{ℤ, pos}
+use lib.ListN.{length, replicate}
+use Rattle.samples.specs.declared.Answer.{Answer}
+use Rattle.samples.specs.Answers.{accept, orElse}
+use Rattle.samples.specs.Binary32.{+0}
+use Rattle.audio_buffer.specs.declared.AudioEffectState.{AudioEffectState}
+use Rattle.audio_buffer.specs.declared.AudioEffectState.the-variants.{TailComplete}
+use Rattle.audio_buffer.specs.Verdict.{verdictOf}
+use Rattle.bands.specs.declared.Times.{Times}
+use Rattle.bands.specs.Tail.{tailCount}
+use Rattle.unit.specs.Hall.{Hall, toState}
+use Rattle.unit.specs.Model.{Model}
+use Rattle.unit.specs.Sizes.{lineLengths, filtersLen}
+use Rattle.unit.specs.Fresh.{freshHall}
+use Rattle.unit.specs.Judges.{judgedFresh, judgedReset}
+use Rattle.frame.specs.Lines.{filtersOf}
+use Rattle.frame.specs.Frame.{Frame, newFilters, frameOf}
+use Rattle.frame.specs.Settle.{nineOf, settled, allMoved}
+use Rattle.reverb.specs.declared.Outcome.{Outcome}
+
+-- "Fresh takes rate, F and store: store all +0 ..; refused, it gives such a state with rate 8,000 and F 4."
+abbrev pub freshUnit : Model → ℕ → ℕ → ℕ → Hall
+freshUnit m rate frame store = accept (judgedFresh m rate frame store) (freshHall m rate frame) (freshHall m 8000 4)
+
+abbrev pub freshStore : Model → ℕ → ℕ → List Float → List Float
+freshStore m rate frame store = accept (judgedFresh m rate frame (length store)) (replicate (length store) +0) store
+
+-- the unit with another count
+abbrev pub counted : Hall → ℤ → Hall
+counted u count = record {
+  rate = u .rate;
+  frame = u .frame;
+  lines = u .lines;
+  passes = u .passes;
+  count = count;
+  filters = u .filters;
+  busy = u .busy;
+  tail = u .tail;
+  marks = u .marks;
+  next = u .next;
+  before = u .before;
+}
+
+-- "Reset: all rings +0, count 0; cursors and filters stay as they are."
+abbrev pub resetUnit : Model → Hall → ℕ → Hall
+resetUnit m u store = accept (judgedReset m u store) (counted u (pos 0)) u
+
+abbrev pub resetStore : Model → Hall → List Float → List Float
+resetStore m u store = accept (judgedReset m u (length store)) (replicate (length store) +0) store
+
+-- the unit after a frame that is accepted: its cursors moved, its filters those of the frame, its count set
+abbrev pub after : Model → Hall → Frame → ℤ → Hall
+after m u r count = record {
+  rate = u .rate;
+  frame = u .frame;
+  lines = allMoved (u .frame) (lineLengths m (u .frame)) (u .lines);
+  passes = allMoved (u .frame) (m .passes) (u .passes);
+  count = count;
+  filters = newFilters r;
+  busy = u .busy;
+  tail = u .tail;
+  marks = u .marks;
+  next = u .next;
+  before = u .before;
+}
+
+-- "Whole apply": step 1's filters, and step 6's count
+abbrev pub applyFrame : Model → Hall → List Float → List Float → List Float → Frame
+applyFrame m u coefficients input store = frameOf m false u (filtersOf (filtersLen m) coefficients) input store
+
+abbrev pub applyCount : Hall → Times → ℤ
+applyCount u t = pos (tailCount t (u .rate) (u .frame))
+
+-- "Tail: the same with kept filters and histories, no input added; count falls by one"
+abbrev pub tailFrame : Model → Hall → List Float → Frame
+tailFrame m u store = frameOf m true u (u .filters) [] store
+
+-- a whole call whose other refusals are `due`: its answer, and what it leaves
+abbrev pub wholeAnswer : Answer → Frame → Answer
+wholeAnswer due r = orElse due (nineOf r)
+
+unfoldable pub wholeUnit : Model → Hall → Answer → Frame → ℤ → Hall
+wholeUnit m u due r count = accept (wholeAnswer due r) (after m u r count) u
+
+unfoldable pub wholeStore : Model → Hall → Answer → Frame → List Float → List Float
+wholeStore m u due r store = accept (wholeAnswer due r) (settled m u r store) store
+
+unfoldable pub wholeOutput : Answer → Frame → List Float → List Float
+wholeOutput due r output = accept (wholeAnswer due r) (r .output .out) output
+
+-- "An accepted whole call or close leaves work all +0 too", and so does a 9
+unfoldable pub wholeWork : Answer → List Float → List Float
+wholeWork due work = accept due (replicate (length work) +0) work
+
+-- "Verdict: TailRemaining exactly if above 0"; "A refused call .. gives .. for a verdict TailComplete."
+abbrev pub outcome : Answer → Hall → AudioEffectState → Outcome
+outcome a u verdict = record { answer = a; verdict = verdict; state = toState u }
+
+abbrev pub wholeOutcome : Model → Hall → Answer → Frame → ℤ → Outcome
+wholeOutcome m u due r count =
+    outcome (wholeAnswer due r) (wholeUnit m u due r count) (accept (wholeAnswer due r) (verdictOf count) TailComplete)
