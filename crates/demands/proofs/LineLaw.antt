@@ -25,13 +25,14 @@ use Rattle.unit.specs.Fresh.{freshHall}
 use Rattle.frame.specs.Lines.{readRows, filtersOf}
 use Rattle.frame.specs.Frame.{Frame, frameFrom}
 use Rattle.frame.specs.Settle.{settled, nineOf, fallen}
+use Rattle.frame.proofs.FrameLaws.{put-long}
 use Rattle.frame.proofs.RowLaws.{Held}
 use Rattle.reverb.specs.Whole.{after as played, counted, wholeAnswer, wholeUnit, wholeStore, applyFrame, applyCount, tailFrame}
 use Rattle.demands.specs.Runs.{World, Call, fresh, reset, apply, tail, after, applyDue, tailDue}
 use Rattle.demands.specs.LineLaw.{row, plays, AllPlay, ofFrame, ofFrames, Silent, freshly, by-reset, LineLaw}
 use Rattle.demands.proofs.Lent.{or-first, fresh-long, Lent, reset-lent, tail-lent, apply-lent, cursors, within}
 use Rattle.demands.proofs.LineRings.{ringAt, row-long, ring-long, ring-same, read-row, put-row, lines-long, line-length, lines-held}
-use Rattle.demands.proofs.LineRings.{length-moved, moved-at, put-long}
+use Rattle.demands.proofs.LineRings.{length-moved, moved-at}
 
 -- line i's ring as it lies from the read cursor on
 abbrev view : Model → ℕ → World → List Float

@@ -1,9 +1,8 @@
 -- The rings of the lines in a store: row i of what is read comes from ring i, and row i of what is put goes there. Assumes nothing.
 use Prim.Native.Nat.{ℕ, zero, suc, _+_, _*_, _-_, _<_, _≤_}
 use mathlib.Core.Path.{_≡_, refl, sym, ap, _∙_}
-use mathlib.Core.Bool.{Bool, true, false, cond}
 use mathlib.Core.List.{List, [], _∷_, _++_}
-use native.Mathlib.Nat.{add-zero, zero-add, suc-mul, not-suc-le-zero, le-of-eq}
+use native.Mathlib.Nat.{add-zero, zero-add, suc-mul, not-suc-le-zero}
 use native.Mathlib.Omega.{arith}
 use lib.Ieee.{Float}
 use lib.ListN.{length, getD, take, drop, replicate, length-take, length-drop, length-replicate, replicate-append-replicate}
@@ -12,15 +11,11 @@ use Rattle.delay.specs.declared.Cursors.{Cursors}
 use Rattle.delay.specs.Calls.{both}
 use Rattle.delay.specs.Ring.{read, write}
 use Rattle.delay.proofs.Laws.{length-read, length-write}
-use Rattle.iir.specs.declared.Filter.{Filter}
-use Rattle.hadamard.specs.Rows.{mixedRows}
-use Rattle.hadamard.proofs.Laws.{rows-length}
 use Rattle.unit.specs.Model.{Model}
 use Rattle.unit.specs.Sizes.{lengthsFrom, lineLengths, total}
-use Rattle.frame.specs.Lines.{readRows, bandRows}
-use Rattle.frame.specs.Frame.{lineRows}
+use Rattle.frame.specs.Lines.{readRows}
 use Rattle.frame.specs.Settle.{putRows, movedBy, allMoved}
-use Rattle.frame.proofs.RowLaws.{Held, total-more, length-bandRows, length-addRows}
+use Rattle.frame.proofs.RowLaws.{Held, total-more}
 use Rattle.demands.specs.LineLaw.{row}
 
 -- ring i of those from line j on, which the store holds one after the other
@@ -153,17 +148,3 @@ moved-at f (l ∷ ls) (c ∷ cs) zero h g = refl
 moved-at f (l ∷ ls) (c ∷ cs) (suc i) h g = moved-at f ls cs i (omega arith) (omega arith)
 
 -- ---- the rows put are as long as those read
-
-module _ (n f : ℕ) (k : Float) (fs : List Filter) (input reads : List Float) where
-  bands-long : let mixed = mixedRows n f k reads in
-      length (bandRows f n 2 fs (bandRows f n 1 fs (bandRows f n 0 fs mixed))) ≡ n * f
-  bands-long =
-      let mixed = mixedRows n f k reads in
-      let l0 = length-bandRows f n 0 fs mixed (le-of-eq (sym (rows-length n f k reads))) in
-      let l1 = length-bandRows f n 1 fs (bandRows f n 0 fs mixed) (le-of-eq (sym l0)) in
-      length-bandRows f n 2 fs (bandRows f n 1 fs (bandRows f n 0 fs mixed)) (le-of-eq (sym l1))
-
-  pub put-long : (tail : Bool) → cond tail f (length input) ≡ f → length (lineRows n f k tail fs input reads .put) ≡ n * f
-  unfolding lineRows
-  put-long true e = bands-long
-  put-long false e = length-addRows f n input _ e (le-of-eq (sym bands-long))

@@ -2,3 +2,4 @@ pub mod RowTurns
 pub mod RowLaws
 pub mod Stages
 pub mod ByFours
+pub mod FrameLaws

@@ -7,3 +7,4 @@ pub mod RowJoins
 pub mod Fits
 pub mod Parts
 pub mod Outcomes
+pub mod FrameParts

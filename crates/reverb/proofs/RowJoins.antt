@@ -22,12 +22,13 @@ use Rattle.delay.specs.Calls.{both}
 use Rattle.unit.specs.Sizes.{total}
 use Rattle.iir.specs.declared.Filter.{Filter}
 use Rattle.iir.specs.Runs.{bandsOut, bandsEnd}
-use Rattle.frame.specs.Lines.{noFilter, readRows, bandRows, bandEnds, three, threeOf, addRows, sumRows}
+use Rattle.frame.specs.Lines.{noFilter, readRows, bandEnds, three, threeOf, addRows, sumRows}
 use Rattle.frame.specs.Frame.{stretch, stageAt, ringsOf, lineRows, outputRow, newFilters}
 use Rattle.frame.specs.Passes.{Stage, passOut, passEnd}
 use Rattle.frame.specs.Stages.{staged}
 use Rattle.frame.specs.Steps.{divided, copied}
-use Rattle.frame.proofs.RowLaws.{byBands, copied-all, length-bandEnds, length-bandRows, length-addRows}
+use Rattle.frame.proofs.RowLaws.{byBands, copied-all, length-bandEnds}
+use Rattle.frame.proofs.FrameLaws.{put-beside}
 use Rattle.frame.proofs.Stages.{length-passOut, pass-rings, staged-laid}
 use Rattle.reverb.specs.Work.{FrameFits, frameBy, framed}
 
@@ -261,27 +262,10 @@ module _ (n : ℕ) (lines fs : List Filter) (l : length lines ≡ 3 * n) where
           q .1 x ∙ rw (e .1, q .0, read, two, left, eg, same, append-assoc) refl,
         )
 
--- ---- lengths of what steps 3 and 4 give
-
-cond-long : (t : Bool) (x y : List Float) {m : ℕ} → length x ≡ m → length y ≡ m → length (cond t x y) ≡ m
-cond-long true x y p q = p
-cond-long false x y p q = q
-
 module _ (n f : ℕ) (k : Float) (tail : Bool) (fs : List Filter) (input reads : List Float) where
   filters-long : length (lineRows n f k tail fs input reads .filters) ≡ 3 * n
   unfolding lineRows
   filters-long = length-bandEnds f n 0 fs (mixedRows n f k reads)
-
-  put-long : length input ≡ f → length (lineRows n f k tail fs input reads .put) ≡ n * f
-  unfolding lineRows
-  put-long li =
-      let long = length-bandRows f n in
-      let mixed = mixedRows n f k reads in
-      let bands = byBands f n 0 fs mixed in
-      let b₀ = long 0 fs mixed (omega (arith, rows-length n f k reads)) in
-      let b₁ = long 1 fs (bandRows f n 0 fs mixed) (omega arith) in
-      let b₂ = long 2 fs (bandRows f n 1 fs (bandRows f n 0 fs mixed)) (omega arith) in
-      cond-long tail bands (addRows f n input bands) b₂ (length-addRows f n input bands li (omega arith))
 
 -- ---- a whole frame
 
@@ -325,7 +309,7 @@ frame-join n f k d tail ls cs ps qs fs gs hs store work x x₁ x₂ fits e₀ ke
     let li : length input ≡ f = length-take-le f work (omega arith) in
     let la : length (take at work) ≡ at = length-take-le at work (omega arith) in
     let lo : length old ≡ f = simp (length-take, length-drop) (omega arith) in
-    let lp = put-long n f k tail fs input reads li in
+    let lp = put-beside n f k fs input reads tail li in
     let begun = copy-join t (at + f) store work x (omega (arith, fits .store-is)) (omega (arith, fits .store-is)) e₀ in
     let q = first-part at (take at work) (old ++ rings) _ (begun ∙ rw (take-add at f work, append-assoc) refl) la in
     let first = ap (take f) (q .0) ∙ take-take f at work (omega arith) in

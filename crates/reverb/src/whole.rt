@@ -1,18 +1,27 @@
 // A whole frame in the work memory, judged, and settled into the store and the output where all of it
 // is finite.
 use crate::lines::settle;
+use crate::rows::frame_rows;
 use delay::Cursors;
 use iir::Filter;
 use samples::all_finite;
 use samples::and;
+use samples::clear;
 ghost use mathlib.Core.Path.{_≡_};
 ghost use mathlib.Core.Bool.{_&&_, cond};
 ghost use Prim.Native.Nat.{_+_, _*_, _≤_};
-ghost use lib.ListN.{length, take, drop};
+ghost use lib.ListN.{length, take, drop, replicate};
+ghost use Rattle.samples.specs.Binary32.{+0};
 ghost use Rattle.samples.specs.Search.{allFinite};
-ghost use Rattle.unit.specs.Sizes.{total};
 ghost use Rattle.frame.specs.Settle.{filtersFinite, putRows};
-ghost use Rattle.reverb.specs.Work.{SettleFits};
+ghost use Rattle.reverb.specs.Work.{SettleFits, FrameFits, frameBy};
+ghost use Rattle.reverb.specs.Steps.{stepped, steppedStore, steppedOutput};
+
+// What a frame came to: whether all of it is finite, and the new filters.
+pub(crate) struct Stepped {
+    pub(crate) ok: bool,
+    pub(crate) filters: [Filter; 51],
+}
 
 // Whether all that a frame would keep or hand out is finite: the filters, and the work memory from
 // the rows to put on.
@@ -64,4 +73,35 @@ pub(crate) fn settle_if(
         return;
     }
     settle_frame(n, f, ls, cs, work, store, output);
+}
+
+// A frame in the work memory, which begins with the input; where all of it is finite, in the store
+// and the output too. The work memory is cleared.
+pub(crate) fn run_frame(
+    n: usize,
+    f: usize,
+    factor: f32,
+    divisor: f32,
+    tail: bool,
+    ls: [usize; 16],
+    cs: [Cursors; 16],
+    ps: [usize; 4],
+    qs: [Cursors; 4],
+    fs: [Filter; 51],
+    store: &mut [f32],
+    work: &mut [f32],
+    output: &mut [f32],
+) -> Stepped
+    requires { ⌜ FrameFits n f ls cs ps (length (now store)) (length (now work)) ⌝ }
+    requires { ⌜ (length (now output) ≡ f) × (3 * n + 3 ≡ 51) ⌝ }
+    ensures { λ r. ⌜ r ≡ stepped (frameBy n f factor divisor tail ls cs ps qs fs (take f (now (work .entry))) (now (store .entry))) ⌝ }
+    ensures { λ _. ⌜ now (store .exit) ≡ steppedStore n f ls cs (frameBy n f factor divisor tail ls cs ps qs fs (take f (now (work .entry))) (now (store .entry))) (now (store .entry)) ⌝ }
+    ensures { λ _. ⌜ now (work .exit) ≡ replicate (length (now (work .entry))) +0 ⌝ }
+    ensures { λ _. ⌜ now (output .exit) ≡ steppedOutput (frameBy n f factor divisor tail ls cs ps qs fs (take f (now (work .entry))) (now (store .entry))) (now (output .entry)) ⌝ }
+{
+    let gs = frame_rows(n, f, factor, divisor, tail, ls, cs, ps, qs, fs, store, work);
+    let ok = frame_finite(n, f, gs, work);
+    settle_if(ok, n, f, ls, cs, work, store, output);
+    clear(work);
+    Stepped { ok, filters: gs }
 }
