@@ -139,6 +139,10 @@ use Rattle.reverb.proofs.fresh.Kinds as reverb-fresh-kinds
 use Rattle.reverb.proofs.fresh.Reads as reverb-fresh-reads
 use Rattle.reverb.proofs.reset.Kinds as reverb-reset-kinds
 use Rattle.reverb.proofs.reset.Reads as reverb-reset-reads
+use Rattle.reverb.proofs.apply.Kinds as reverb-apply-kinds
+use Rattle.reverb.proofs.apply.Reads as reverb-apply-reads
+use Rattle.reverb.proofs.tail.Kinds as reverb-tail-kinds
+use Rattle.reverb.proofs.tail.Reads as reverb-tail-reads
 
 -- ---- samples
 
@@ -419,3 +423,27 @@ reverb-reset κs a x y s t p q = p .0 ∙ sym (q .0)
 
 pub reverb-reset-store : OneExit 1 reverb-reset-kinds.ps reverb-reset-kinds.r reverb-reset-reads.Post (λ κs s. s .1 .0 .now)
 reverb-reset-store κs a x y s t p q = p .1 ∙ sym (q .1)
+
+pub reverb-apply : OneResult 5 reverb-apply-kinds.ps reverb-apply-kinds.r reverb-apply-reads.Post
+reverb-apply κs a x y s t p q = p .0 ∙ sym (q .0)
+
+pub reverb-apply-store : OneExit 5 reverb-apply-kinds.ps reverb-apply-kinds.r reverb-apply-reads.Post (λ κs s. s .1 .1 .1 .1 .0 .now)
+reverb-apply-store κs a x y s t p q = p .1 .0 ∙ sym (q .1 .0)
+
+pub reverb-apply-work : OneExit 5 reverb-apply-kinds.ps reverb-apply-kinds.r reverb-apply-reads.Post (λ κs s. s .1 .1 .1 .1 .1 .0 .now)
+reverb-apply-work κs a x y s t p q = p .1 .1 .0 ∙ sym (q .1 .1 .0)
+
+pub reverb-apply-output : OneExit 5 reverb-apply-kinds.ps reverb-apply-kinds.r reverb-apply-reads.Post (λ κs s. s .1 .1 .1 .1 .1 .1 .0 .now)
+reverb-apply-output κs a x y s t p q = p .1 .1 .1 ∙ sym (q .1 .1 .1)
+
+pub reverb-tail : OneResult 3 reverb-tail-kinds.ps reverb-tail-kinds.r reverb-tail-reads.Post
+reverb-tail κs a x y s t p q = p .0 ∙ sym (q .0)
+
+pub reverb-tail-store : OneExit 3 reverb-tail-kinds.ps reverb-tail-kinds.r reverb-tail-reads.Post (λ κs s. s .1 .0 .now)
+reverb-tail-store κs a x y s t p q = p .1 .0 ∙ sym (q .1 .0)
+
+pub reverb-tail-work : OneExit 3 reverb-tail-kinds.ps reverb-tail-kinds.r reverb-tail-reads.Post (λ κs s. s .1 .1 .0 .now)
+reverb-tail-work κs a x y s t p q = p .1 .1 .0 ∙ sym (q .1 .1 .0)
+
+pub reverb-tail-output : OneExit 3 reverb-tail-kinds.ps reverb-tail-kinds.r reverb-tail-reads.Post (λ κs s. s .1 .1 .1 .0 .now)
+reverb-tail-output κs a x y s t p q = p .1 .1 .1 ∙ sym (q .1 .1 .1)

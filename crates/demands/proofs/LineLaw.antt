@@ -23,7 +23,7 @@ use Rattle.unit.specs.Model.{Model}
 use Rattle.unit.specs.Sizes.{lineLengths, filtersLen, storeLen}
 use Rattle.unit.specs.Fresh.{freshHall}
 use Rattle.frame.specs.Lines.{readRows, filtersOf}
-use Rattle.frame.specs.Frame.{Frame, frameFrom}
+use Rattle.frame.specs.Frame.{Frame, frameFrom, newFilters}
 use Rattle.frame.specs.Settle.{settled, nineOf, fallen}
 use Rattle.frame.proofs.FrameLaws.{put-long}
 use Rattle.frame.proofs.RowLaws.{Held}
@@ -68,7 +68,7 @@ module _ (m : Model) (i : ℕ) (h : i < m .lines) where
 
   -- what an accepted frame makes of a world
   abbrev settling : World → Frame → ℤ → World
-  settling w r count = record { unit = played m (w .unit) r count; store = settled m (w .unit) r (w .store) }
+  settling w r count = record { unit = played m (w .unit) (newFilters r) count; store = settled m (w .unit) r (w .store) }
 
   -- the frame r reads the lines of w
   abbrev Reads : World → Frame → Type 0

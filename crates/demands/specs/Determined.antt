@@ -5,11 +5,15 @@ use mathlib.Core.Path.{_≡_}
 use mathlib.Core.Bool.{false}
 use mathlib.Core.List.{List}
 use Prim.Native.Nat.{ℕ}
+use lib.Ieee.{Float}
+use lib.ListN.{length, replicate}
 use contract.Lifetimes
 use borrow.Fn.Kinds as Kinds'
 use denote.Triple.Clauses
 use Rattle.samples.specs.declared.Answer.{Answer}
+use Rattle.samples.specs.declared.Answer.the-variants.{NotFinite}
 use Rattle.samples.specs.Answers.{accepted}
+use Rattle.samples.specs.Binary32.{+0}
 
 module _ (n : ℕ) (ps : List (Kinds'.PK n)) (r : Kinds'.RK n) (post : Kinds'.Out n ps r) where
   abbrev Result : Lifetimes.Lfts n → Type 0
@@ -38,3 +42,16 @@ module _ (n : ℕ) (ps : List (Kinds'.PK n)) (r : Kinds'.RK n) (post : Kinds'.Ou
       → ((κs : Lifetimes.Lfts n) → Result κs → Exits κs → A) → ((κs : Lifetimes.Lfts n) → Kinds'.Dens κs ps → A) → Type 0
   Unchanged answer left given =
       (κs : Lifetimes.Lfts n) (a : Kinds'.Dens κs ps) (x : Result κs) (s : Exits κs) → post κs a x s → accepted (answer κs x) ≡ false → left κs x s ≡ given κs a
+
+  -- "9 .. work all +0"
+  abbrev pub Cleared : ((κs : Lifetimes.Lfts n) → Result κs → Answer)
+      → ((κs : Lifetimes.Lfts n) → Result κs → Exits κs → List Float) → ((κs : Lifetimes.Lfts n) → Kinds'.Dens κs ps → List Float) → Type 0
+  Cleared answer left given =
+      (κs : Lifetimes.Lfts n) (a : Kinds'.Dens κs ps) (x : Result κs) (s : Exits κs) → post κs a x s → answer κs x ≡ NotFinite → left κs x s ≡ replicate (length (given κs a)) +0
+
+  -- a refusal other than 9 changes nothing of it
+  abbrev pub UnchangedBut9 : {A : Type 0} → ((κs : Lifetimes.Lfts n) → Result κs → Answer)
+      → ((κs : Lifetimes.Lfts n) → Result κs → Exits κs → A) → ((κs : Lifetimes.Lfts n) → Kinds'.Dens κs ps → A) → Type 0
+  UnchangedBut9 answer left given =
+      (κs : Lifetimes.Lfts n) (a : Kinds'.Dens κs ps) (x : Result κs) (s : Exits κs) → post κs a x s
+      → accepted (answer κs x) ≡ false → (answer κs x ≡ NotFinite → ⊥) → left κs x s ≡ given κs a

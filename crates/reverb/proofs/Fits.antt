@@ -1,19 +1,24 @@
 -- From a judgement that lets a whole call by to what its workers ask of the memory lent. Assumes nothing.
 use mathlib.Core.Path.{_≡_, refl, sym, ap, _∙_}
-use mathlib.Core.Bool.{Bool, true, _&&_, _||_}
+use mathlib.Core.Bool.{Bool, true, false, not, _&&_, _||_}
 use mathlib.Core.List.{List, [], _∷_}
 use Prim.Native.Nat.{ℕ, zero, suc, _+_, _*_, _≤_, _<_}
 use native.Mathlib.Nat.{add-zero, zero-add, add-suc, suc-add, not-suc-le-zero}
 use native.Mathlib.Omega.{arith}
 use lib.Dec.{eqb}
+use lib.Ieee.{Float}
 use lib.ListN.{length, getD, take}
 use lib.Seq.{take-all}
 use borrow.Author.Tests.{ltb-true, lt-ltb, eqb-true}
-use Rattle.samples.specs.declared.Answer.the-variants.{Accepted, BadState, BadLength, BadIndex, OutOfTurn}
-use Rattle.samples.specs.Answers.{need}
+use Rattle.samples.specs.declared.Answer.{Answer}
+use Rattle.samples.specs.declared.Answer.the-variants.{Accepted, BadState, BadLength, BadIndex, OutOfTurn, BadTime}
+use Rattle.samples.specs.Answers.{need, accepted, orElse}
 use Rattle.samples.specs.Lists.{allFrom}
 use Rattle.samples.specs.Sizes.{rateOk, frameOk}
-use Rattle.samples.proofs.Laws.{split-and, needed, Frame, frame-of}
+use Rattle.samples.proofs.Laws.{split-and, needed, is-accepted, accept-no, Frame, frame-of}
+use Rattle.bands.specs.declared.Times.{Times}
+use Rattle.bands.specs.Times.{timesOk}
+use Rattle.bands.specs.Tail.{tailCount, countOf}
 use Rattle.delay.specs.declared.Cursors.{Cursors}
 use Rattle.delay.specs.Calls.{both}
 use Rattle.primes.specs.Table.{delayAt}
@@ -22,7 +27,7 @@ use Rattle.unit.specs.Hall.{Hall}
 use Rattle.unit.specs.Model.{Model, wall}
 use Rattle.unit.specs.Sizes.{lengthsFrom, lineLengths, total, storeLen, workLen}
 use Rattle.unit.specs.Range.{below, linesOk, passesOk, inRange, blankOpen}
-use Rattle.unit.specs.Judges.{judged, workOk, lentOk}
+use Rattle.unit.specs.Judges.{judged, judgedApply, judgedGiven, workOk, lentOk, givenOk}
 use Rattle.unit.proofs.Laws.{store-is, work-is}
 use Rattle.reverb.specs.Work.{Rings, Within, WholeFits}
 
@@ -66,6 +71,10 @@ unfolding lengthsFrom
 lengths-long m f zero j = refl
 lengths-long m f (suc n) j = ap suc (lengths-long m f n (j + 1))
 
+-- sixteen lines are all that the wall unit has
+pub every-line : (f : ℕ) → take 16 (lineLengths wall f) ≡ lineLengths wall f
+every-line f = take-all 16 (lineLengths wall f) (omega (arith, lengths-long wall f 16 0))
+
 module _ (m : Model) (f : ℕ) (cs : List Cursors) (some : 0 < f) (short : f ≤ 1024) (near : (i : ℕ) → m .delay i ≤ 556) (all : linesOk m f cs ≡ true) where
   line-at : (i : ℕ) → Below (m .delay i + f) (getD cs i (both 0))
   unfolding linesOk
@@ -102,6 +111,7 @@ passes-within cs e =
 
 -- what an accepted call tells of its state and of the lengths
 pub record Due (u : Hall) (lengths turn : Bool) : Type 0 where
+  pub sizes : (rateOk (u .rate) && frameOk (u .frame)) ≡ true
   pub frame : Frame (u .frame)
   pub lines : linesOk wall (u .frame) (u .lines) ≡ true
   pub passes : passesOk wall (u .passes) ≡ true
@@ -119,6 +129,7 @@ due-of u lengths line turn e =
     let s = split-and (rateOk (u .rate) && frameOk (u .frame)) (cursors && (u .busy || blankOpen u)) (p .0) in
     let c = split-and (linesOk wall (u .frame) (u .lines)) (passesOk wall (u .passes)) (split-and cursors (u .busy || blankOpen u) (s .1) .0) in
     record {
+      sizes = s .0;
       frame = frame-of (u .frame) (split-and (rateOk (u .rate)) (frameOk (u .frame)) (s .0) .1);
       lines = c .0;
       passes = c .1;
@@ -155,7 +166,7 @@ whole-fits u store work output turn d =
     let some : 0 < f = omega (arith, d .frame .lo) in
     let short = d .frame .hi in
     let near : (i : ℕ) → delayAt i ≤ 556 = (λ i. delay-range i .1) in
-    let lines-are : total (take 16 (lineLengths wall f)) ≡ total (lineLengths wall f) = ap total (take-all 16 (lineLengths wall f) (omega (arith, lengths-long wall f 16 0))) in
+    let lines-are : total (take 16 (lineLengths wall f)) ≡ total (lineLengths wall f) = ap total (every-line f) in
     record {
       fits = record {
         few = omega arith;
@@ -173,4 +184,49 @@ whole-fits u store work output turn d =
       passes = passes-within (u .passes) (d .passes);
       short = short;
       out = eqb-true _ _ (g .1);
+    }
+
+-- ---- an apply
+
+-- a judgement after another one lets by only what both do
+pub both-let-by : (a b : Answer) → orElse a b ≡ Accepted → (a ≡ Accepted) × (b ≡ Accepted)
+both-let-by a b e = let p = go (accepted a) refl in (p, rw p at e)
+  where
+    go : (ok : Bool) → accepted a ≡ ok → a ≡ Accepted
+    go true h = is-accepted a h
+    go false h = sym (accept-no a b a h) ∙ e
+
+-- what an accepted apply tells of what it is given, and of the memory lent
+pub record ApplyFits (u : Hall) (t : Times) (coefficients input store work output : ℕ) : Type 0 where
+  pub whole : WholeFits wall u store work output
+  pub given : coefficients ≡ 255
+  pub row : input ≡ u .frame
+  pub holds : u .frame ≤ work
+  pub count : countOf t (u .rate) (u .frame) ≡ tailCount t (u .rate) (u .frame)
+
+pub apply-fits : (u : Hall) (t : Times) (coefficients input : List Float) (store work output : ℕ)
+    → judgedApply wall u t coefficients input store work output ≡ Accepted → ApplyFits u t (length coefficients) (length input) store work output
+unfolding judgedGiven
+apply-fits u t coefficients input store work output e =
+    let given = givenOk wall u (length coefficients) (length input) in
+    let lent = lentOk wall u store work output in
+    let p = both-let-by (judged wall u (given && lent) true (not (u .busy))) (judgedGiven t coefficients input) e in
+    let d = due-of u (given && lent) true (not (u .busy)) (p .0) in
+    let l = split-and given lent (d .lent) in
+    let g = split-and _ _ (l .0) in
+    let times = needed (timesOk t) BadTime _ refl (p .1) .0 in
+    let w = whole-fits u store work output (not (u .busy)) (record {
+      sizes = d .sizes;
+      frame = d .frame;
+      lines = d .lines;
+      passes = d .passes;
+      lent = l .1;
+      on-turn = d .on-turn;
+    }) in
+    record {
+      whole = w;
+      given = eqb-true _ _ (g .0);
+      row = eqb-true _ _ (g .1);
+      holds = omega (arith, w .fits .work-is);
+      count = rw (d .sizes, times) refl;
     }

@@ -8,3 +8,4 @@ pub mod Fits
 pub mod Parts
 pub mod Outcomes
 pub mod FrameParts
+pub mod WholeParts

@@ -8,7 +8,7 @@ use Rattle.samples.proofs.Laws.{accept-yes, accept-no}
 
 -- `a` is the answer given, which is the judgement b, and `ok` what the test of it said
 module _ (a b : Answer) (ok : Bool) (e : a ≡ b) (t : ok ≡ accepted a) where
-  refused : not ok ≡ true → accepted b ≡ false
+  pub refused : not ok ≡ true → accepted b ≡ false
   refused h = ap accepted (sym e) ∙ sym t ∙ not-true ok h
 
   pub let-by : not ok ≡ false → accepted b ≡ true

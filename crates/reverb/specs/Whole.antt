@@ -11,6 +11,7 @@ use Rattle.samples.specs.Binary32.{+0}
 use Rattle.audio_buffer.specs.declared.AudioEffectState.{AudioEffectState}
 use Rattle.audio_buffer.specs.declared.AudioEffectState.the-variants.{TailComplete}
 use Rattle.audio_buffer.specs.Verdict.{verdictOf}
+use Rattle.iir.specs.declared.Filter.{Filter}
 use Rattle.bands.specs.declared.Times.{Times}
 use Rattle.bands.specs.Tail.{tailCount}
 use Rattle.unit.specs.Hall.{Hall, toState}
@@ -54,14 +55,14 @@ abbrev pub resetStore : Model → Hall → List Float → List Float
 resetStore m u store = accept (judgedReset m u (length store)) (replicate (length store) +0) store
 
 -- the unit after a frame that is accepted: its cursors moved, its filters those of the frame, its count set
-abbrev pub after : Model → Hall → Frame → ℤ → Hall
-after m u r count = record {
+abbrev pub after : Model → Hall → List Filter → ℤ → Hall
+after m u filters count = record {
   rate = u .rate;
   frame = u .frame;
   lines = allMoved (u .frame) (lineLengths m (u .frame)) (u .lines);
   passes = allMoved (u .frame) (m .passes) (u .passes);
   count = count;
-  filters = newFilters r;
+  filters = filters;
   busy = u .busy;
   tail = u .tail;
   marks = u .marks;
@@ -85,7 +86,7 @@ abbrev pub wholeAnswer : Answer → Frame → Answer
 wholeAnswer due r = orElse due (nineOf r)
 
 unfoldable pub wholeUnit : Model → Hall → Answer → Frame → ℤ → Hall
-wholeUnit m u due r count = accept (wholeAnswer due r) (after m u r count) u
+wholeUnit m u due r count = accept (wholeAnswer due r) (after m u (newFilters r) count) u
 
 unfoldable pub wholeStore : Model → Hall → Answer → Frame → List Float → List Float
 wholeStore m u due r store = accept (wholeAnswer due r) (settled m u r store) store

@@ -4,23 +4,33 @@
 // leaves.
 mod lines;
 mod rows;
+mod units;
 mod whole;
 
+use crate::lines::filters_of;
+use crate::units::fallen;
+use crate::units::quiet;
+use crate::whole::whole_frame;
 use audio_buffer::AudioEffectState;
+use bands::Times;
+use bands::tail_count;
 use samples::Answer;
 use samples::Frames;
 use samples::clear;
 use samples::is_accepted;
 use unit::State;
 use unit::fresh_state;
+use unit::judge_apply;
 use unit::judge_fresh;
 use unit::judge_reset;
+use unit::judge_tail;
 ghost use mathlib.Core.Path.{_≡_};
 ghost use lib.ListN.{length};
 ghost use Rattle.unit.specs.Hall.{ofState};
 ghost use Rattle.unit.specs.Model.{wall};
-ghost use Rattle.unit.specs.Judges.{judgedFresh, judgedReset};
-ghost use Rattle.reverb.specs.Whole.{outcome, freshUnit, freshStore, resetUnit, resetStore};
+ghost use Rattle.unit.specs.Judges.{judgedFresh, judgedReset, judgedTail, judgedApply};
+ghost use Rattle.frame.specs.Settle.{fallen};
+ghost use Rattle.reverb.specs.Whole.{outcome, freshUnit, freshStore, resetUnit, resetStore, applyFrame, applyCount, tailFrame, wholeOutcome, wholeStore, wholeWork, wholeOutput};
 
 // What a call of the unit gives back: its answer, the verdict on the tail, and the state.
 pub struct Outcome {
@@ -59,13 +69,55 @@ pub fn reset(s: State, store: &mut [f32]) -> Outcome
     quiet(answer, t)
 }
 
-// The outcome of a call that leaves no tail to wait for.
-fn quiet(answer: Answer, state: State) -> Outcome
-    ensures { λ r. ⌜ r ≡ outcome answer (ofState state) AudioEffectState.TailComplete ⌝ }
+// A frame of input: the lines sound through filters of the given coefficients, the input is added to
+// each, and the tail that is to come is counted by the times.
+pub fn apply(
+    s: State,
+    t: Times,
+    coefficients: &[f32],
+    input: &[f32],
+    store: &mut [f32],
+    work: &mut [f32],
+    output: &mut [f32],
+) -> Outcome
+    ensures { λ r. ⌜ r ≡ wholeOutcome wall (ofState s) (judgedApply wall (ofState s) t (now (coefficients .entry)) (now (input .entry)) (length (now (store .entry))) (length (now (work .entry))) (length (now (output .entry)))) (applyFrame wall (ofState s) (now (coefficients .entry)) (now (input .entry)) (now (store .entry))) (applyCount (ofState s) t) ⌝ }
+    ensures { λ _. ⌜ now (store .exit) ≡ wholeStore wall (ofState s) (judgedApply wall (ofState s) t (now (coefficients .entry)) (now (input .entry)) (length (now (store .entry))) (length (now (work .entry))) (length (now (output .entry)))) (applyFrame wall (ofState s) (now (coefficients .entry)) (now (input .entry)) (now (store .entry))) (now (store .entry)) ⌝ }
+    ensures { λ _. ⌜ now (work .exit) ≡ wholeWork (judgedApply wall (ofState s) t (now (coefficients .entry)) (now (input .entry)) (length (now (store .entry))) (length (now (work .entry))) (length (now (output .entry)))) (now (work .entry)) ⌝ }
+    ensures { λ _. ⌜ now (output .exit) ≡ wholeOutput (judgedApply wall (ofState s) t (now (coefficients .entry)) (now (input .entry)) (length (now (store .entry))) (length (now (work .entry))) (length (now (output .entry)))) (applyFrame wall (ofState s) (now (coefficients .entry)) (now (input .entry)) (now (store .entry))) (now (output .entry)) ⌝ }
 {
-    Outcome {
-        answer,
-        verdict: AudioEffectState::TailComplete,
-        state,
+    let answer = judge_apply(
+        s,
+        t,
+        coefficients,
+        input,
+        store.len(),
+        work.len(),
+        output.len(),
+    );
+    if !is_accepted(answer) {
+        return quiet(answer, s);
     }
+    let rate = s.rate;
+    let f = s.frame;
+    let tail = tail_count(t, rate, f);
+    let fs = filters_of(coefficients);
+    frame::copy(input, &mut work[0..f]);
+    whole_frame(s, false, fs, tail.count, store, work, output)
+}
+
+// A frame after the input has ended: the lines go on sounding through the filters kept, and one frame
+// less is to come.
+pub fn tail(s: State, store: &mut [f32], work: &mut [f32], output: &mut [f32]) -> Outcome
+    ensures { λ r. ⌜ r ≡ wholeOutcome wall (ofState s) (judgedTail wall (ofState s) (length (now (store .entry))) (length (now (work .entry))) (length (now (output .entry)))) (tailFrame wall (ofState s) (now (store .entry))) (fallen (s .count .0)) ⌝ }
+    ensures { λ _. ⌜ now (store .exit) ≡ wholeStore wall (ofState s) (judgedTail wall (ofState s) (length (now (store .entry))) (length (now (work .entry))) (length (now (output .entry)))) (tailFrame wall (ofState s) (now (store .entry))) (now (store .entry)) ⌝ }
+    ensures { λ _. ⌜ now (work .exit) ≡ wholeWork (judgedTail wall (ofState s) (length (now (store .entry))) (length (now (work .entry))) (length (now (output .entry)))) (now (work .entry)) ⌝ }
+    ensures { λ _. ⌜ now (output .exit) ≡ wholeOutput (judgedTail wall (ofState s) (length (now (store .entry))) (length (now (work .entry))) (length (now (output .entry)))) (tailFrame wall (ofState s) (now (store .entry))) (now (output .entry)) ⌝ }
+{
+    let answer = judge_tail(s, store.len(), work.len(), output.len());
+    if !is_accepted(answer) {
+        return quiet(answer, s);
+    }
+    let fs = s.filters;
+    let count = s.count;
+    whole_frame(s, true, fs, fallen(count), store, work, output)
 }

@@ -1,21 +1,32 @@
 // A whole frame in the work memory, judged, and settled into the store and the output where all of it
 // is finite.
+use crate::Outcome;
+use crate::lines::line_lengths;
 use crate::lines::settle;
 use crate::rows::frame_rows;
+use crate::units::conclude;
 use delay::Cursors;
 use iir::Filter;
+use samples::Frames;
 use samples::all_finite;
 use samples::and;
 use samples::clear;
+use unit::PASSES;
+use unit::State;
 ghost use mathlib.Core.Path.{_≡_};
 ghost use mathlib.Core.Bool.{_&&_, cond};
 ghost use Prim.Native.Nat.{_+_, _*_, _≤_};
 ghost use lib.ListN.{length, take, drop, replicate};
 ghost use Rattle.samples.specs.Binary32.{+0};
 ghost use Rattle.samples.specs.Search.{allFinite};
+ghost use Rattle.samples.specs.declared.Answer.the-variants.{Accepted};
+ghost use Rattle.unit.specs.Hall.{ofState};
+ghost use Rattle.unit.specs.Model.{wall};
+ghost use Rattle.frame.specs.Frame.{frameOf};
 ghost use Rattle.frame.specs.Settle.{filtersFinite, putRows};
-ghost use Rattle.reverb.specs.Work.{SettleFits, FrameFits, frameBy};
+ghost use Rattle.reverb.specs.Work.{SettleFits, FrameFits, WholeFits, frameBy};
 ghost use Rattle.reverb.specs.Steps.{stepped, steppedStore, steppedOutput};
+ghost use Rattle.reverb.specs.Whole.{wholeOutcome, wholeStore, wholeOutput};
 
 // What a frame came to: whether all of it is finite, and the new filters.
 pub(crate) struct Stepped {
@@ -104,4 +115,44 @@ pub(crate) fn run_frame(
     settle_if(ok, n, f, ls, cs, work, store, output);
     clear(work);
     Stepped { ok, filters: gs }
+}
+
+// A whole frame of a unit, with the filters `fs`, that nothing but its own numbers can refuse. The
+// work memory begins with the input.
+pub(crate) fn whole_frame(
+    s: State,
+    tail: bool,
+    fs: [Filter; 51],
+    count: Frames,
+    store: &mut [f32],
+    work: &mut [f32],
+    output: &mut [f32],
+) -> Outcome
+    requires { ⌜ WholeFits wall (ofState s) (length (now store)) (length (now work)) (length (now output)) ⌝ }
+    ensures { λ r. ⌜ r ≡ wholeOutcome wall (ofState s) Accepted (frameOf wall tail (ofState s) fs (take (s .frame) (now (work .entry))) (now (store .entry))) (count .0) ⌝ }
+    ensures { λ _. ⌜ now (store .exit) ≡ wholeStore wall (ofState s) Accepted (frameOf wall tail (ofState s) fs (take (s .frame) (now (work .entry))) (now (store .entry))) (now (store .entry)) ⌝ }
+    ensures { λ _. ⌜ now (work .exit) ≡ replicate (length (now (work .entry))) +0 ⌝ }
+    ensures { λ _. ⌜ now (output .exit) ≡ wholeOutput Accepted (frameOf wall tail (ofState s) fs (take (s .frame) (now (work .entry))) (now (store .entry))) (now (output .entry)) ⌝ }
+{
+    let f = s.frame;
+    let cs = s.lines;
+    let qs = s.passes;
+    let ls = line_lengths(f);
+    let r = run_frame(
+        16,
+        f,
+        0.25,
+        16.0,
+        tail,
+        ls,
+        cs,
+        PASSES,
+        qs,
+        fs,
+        store,
+        work,
+        output,
+    );
+    let gs = r.filters;
+    conclude(r.ok, s, ls, gs, count)
 }

@@ -1,0 +1,167 @@
+-- `reverb::apply` meets its contract. Assumes nothing.
+use borrow.Author.Needs.{needs}
+use mathlib.Core.Path.{_≡_, ap, _∙_}
+use mathlib.Core.Bool.{true}
+use lib.IntN.{pos}
+use lib.ListN.{length}
+use denote.Ref.{now}
+use Rattle.samples.specs.Answers.{accepted}
+use Rattle.bands.specs.declared.Counted.{Counted}
+use Rattle.unit.specs.Hall.{ofState}
+use Rattle.unit.specs.Model.{wall}
+use Rattle.unit.specs.Judges.{judgedApply}
+use Rattle.reverb.specs.Whole.{applyFrame, applyCount}
+use Rattle.reverb.proofs.Fits.{ApplyFits, apply-fits}
+use Rattle.reverb.proofs.Outcomes.{refused, let-by}
+use Rattle.reverb.proofs.WholeParts.{begun, one-frame, all-as-was, as-frame}
+use Rattle.samples.proofs.Laws.{is-accepted}
+use Rattle.reverb.proofs.apply.Statement.{statement}
+use Rattle.reverb.proofs.apply.Tie as tie
+use Rattle.reverb.proofs.apply.Reads as reads
+use Rattle.reverb.proofs.apply.Lts as lts
+use Rattle.unit.proofs.judge_apply.Reads as judge-apply-reads
+use Rattle.samples.proofs.is_accepted.Reads as is-accepted-reads
+use Rattle.reverb.proofs.units.quiet.Reads as quiet-reads
+use Rattle.bands.proofs.tail_count.Reads as tail-count-reads
+use Rattle.reverb.proofs.lines.filters_of.Reads as filters-of-reads
+use Rattle.frame.proofs.copy.Reads as copy-reads
+use Rattle.reverb.proofs.whole.whole_frame.Reads as whole-frame-reads
+
+judge-apply-requires : tie.Need-judge-apply-requires
+judge-apply-requires c κs = search needs
+
+is-accepted-requires : tie.Need-is-accepted-requires
+is-accepted-requires c κs = search needs
+
+quiet-requires : tie.Need-quiet-requires
+quiet-requires c κs = search needs
+
+returns : tie.Need-returns
+returns c =
+    let tested = c .before .before in
+    let judged = tested .before in
+    let a = judged .before .before .before .before .before .before .args in
+    let u = ofState (a .s) in
+    let due = judgedApply wall u (a .t) (now (a .coefficients)) (now (a .input)) (length (now (a .store))) (length (now (a .work))) (length (now (a .output))) in
+    let e = judged .judge-apply .ensures in
+    let shut = refused _ due _ e (tested .is-accepted .ensures) (c .before .if1 .taken) in
+    all-as-was u due _ (applyFrame wall u (now (a .coefficients)) (now (a .input)) (now (a .store))) (applyCount u (a .t)) _ (now (a .store)) (now (a .work)) (now (a .output)) shut e (c .quiet .ensures)
+
+-- what the judgement has let by
+through :
+    (p : lts.Else1 (
+      judge-apply-reads.Asked,
+      judge-apply-reads.Learnt,
+      is-accepted-reads.Asked,
+      is-accepted-reads.Learnt,
+      quiet-reads.Asked,
+      quiet-reads.Learnt,
+      tail-count-reads.Asked,
+      tail-count-reads.Learnt,
+      filters-of-reads.Asked,
+      filters-of-reads.Learnt,
+      copy-reads.Asked,
+      copy-reads.Learnt,
+      whole-frame-reads.Asked,
+      whole-frame-reads.Learnt,
+    )
+    reads.Pre reads.Post)
+    → let a = p .before .before .before .before .before .before .before .before .args in
+    accepted (judgedApply wall (ofState (a .s)) (a .t) (now (a .coefficients)) (now (a .input)) (length (now (a .store))) (length (now (a .work))) (length (now (a .output)))) ≡ true
+through p = let judged = p .before .before in let-by _ _ _ (judged .judge-apply .ensures) (p .before .is-accepted .ensures) (p .if1 .left)
+
+fits :
+    (p : lts.Else1 (
+      judge-apply-reads.Asked,
+      judge-apply-reads.Learnt,
+      is-accepted-reads.Asked,
+      is-accepted-reads.Learnt,
+      quiet-reads.Asked,
+      quiet-reads.Learnt,
+      tail-count-reads.Asked,
+      tail-count-reads.Learnt,
+      filters-of-reads.Asked,
+      filters-of-reads.Learnt,
+      copy-reads.Asked,
+      copy-reads.Learnt,
+      whole-frame-reads.Asked,
+      whole-frame-reads.Learnt,
+    )
+    reads.Pre reads.Post)
+    → let a = p .before .before .before .before .before .before .before .before .args in
+    ApplyFits (ofState (a .s)) (a .t) (length (now (a .coefficients))) (length (now (a .input))) (length (now (a .store))) (length (now (a .work))) (length (now (a .output)))
+fits p =
+    let a = p .before .before .before .before .before .before .before .before .args in
+    apply-fits (ofState (a .s)) (a .t) (now (a .coefficients)) (now (a .input)) _ _ _ (is-accepted _ (through p))
+
+tail-count-requires : tie.Need-tail-count-requires
+tail-count-requires c κs = search needs
+
+filters-of-requires : tie.Need-filters-of-requires
+filters-of-requires c κs = fits (c .before) .given
+
+sub-copy : tie.Need-sub-copy
+sub-copy c = search needs
+
+part-copy-start : tie.Need-part-copy-start
+part-copy-start c = search needs
+
+part-copy-end : tie.Need-part-copy-end
+part-copy-end c = fits (c .before .before) .holds
+
+copy-requires : tie.Need-copy-requires
+copy-requires c κs = search needs
+
+whole-frame-requires : tie.Need-whole-frame-requires
+whole-frame-requires c κs =
+    let copied = c .before .before .before .before .before in
+    let p = copied .before .before .before .before in
+    let a = p .before .before .before .before .before .before .before .before .args in
+    let h = fits p in
+    let b = begun (a .s .frame) (now (a .input)) (now (a .work)) _ (h .row) (h .holds) (copied .copy .ensures) in
+    rw (b .1) (h .whole)
+
+same-length : tie.Need-same-length
+same-length c = search needs
+
+same-length-2 : tie.Need-same-length-2
+same-length-2 c = search needs
+
+same-length-3 : tie.Need-same-length-3
+same-length-3 c = search needs
+
+returns-2 : tie.Need-returns-2
+returns-2 c =
+    let ran = c .before .before .before .before .before .before in
+    let copied = ran .before .before .before .before .before .before in
+    let filtered = copied .before .before in
+    let counted = filtered .before in
+    let p = counted .before in
+    let a = p .before .before .before .before .before .before .before .before .args in
+    let u = ofState (a .s) in
+    let h = fits p in
+    let b = begun (u .frame) (now (a .input)) (now (a .work)) _ (h .row) (h .holds) (copied .copy .ensures) in
+    let r = one-frame u _ _ _ _ (now (a .store)) (filtered .filters-of .ensures) (b .0) in
+    let count = ap (λ (n : Counted). n .count .0) (counted .tail-count .ensures) ∙ ap pos (h .count) in
+    let g = ran .whole-frame .ensures in
+    as-frame u _ _ _ _ _ _ (now (a .store)) _ (now (a .work)) _ (now (a .output)) _ _ (through p) r count (b .1) (g .0) (g .1 .0) (g .1 .1 .0) (g .1 .1 .1)
+
+pub apply-spec : {M : Type 1} → statement M
+apply-spec =
+    tie.close
+    (tie.spec
+    judge-apply-requires
+    is-accepted-requires
+    quiet-requires
+    returns
+    tail-count-requires
+    filters-of-requires
+    sub-copy
+    part-copy-start
+    part-copy-end
+    copy-requires
+    whole-frame-requires
+    same-length
+    same-length-2
+    same-length-3
+    returns-2)

@@ -1,0 +1,95 @@
+-- `reverb::tail` meets its contract. Assumes nothing.
+use borrow.Author.Needs.{needs}
+use mathlib.Core.Path.{refl, ap}
+use mathlib.Core.Bool.{not}
+use lib.ListN.{length, take}
+use denote.Ref.{now}
+use Rattle.samples.specs.declared.Frames.{Frames}
+use Rattle.unit.specs.Hall.{ofState}
+use Rattle.unit.specs.Model.{wall}
+use Rattle.unit.specs.Judges.{judgedTail, lentOk}
+use Rattle.frame.specs.Settle.{fallen}
+use Rattle.reverb.specs.Whole.{tailFrame}
+use Rattle.reverb.proofs.Fits.{due-of, whole-fits}
+use Rattle.reverb.proofs.Outcomes.{refused, let-by}
+use Rattle.reverb.proofs.WholeParts.{no-input, all-as-was, as-frame}
+use Rattle.samples.proofs.Laws.{is-accepted}
+use Rattle.reverb.proofs.tail.Statement.{statement}
+use Rattle.reverb.proofs.tail.Tie as tie
+
+judge-tail-requires : tie.Need-judge-tail-requires
+judge-tail-requires c κs = search needs
+
+is-accepted-requires : tie.Need-is-accepted-requires
+is-accepted-requires c κs = search needs
+
+quiet-requires : tie.Need-quiet-requires
+quiet-requires c κs = search needs
+
+returns : tie.Need-returns
+returns c =
+    let tested = c .before .before in
+    let judged = tested .before in
+    let a = judged .before .before .before .before .args in
+    let u = ofState (a .s) in
+    let due = judgedTail wall u (length (now (a .store))) (length (now (a .work))) (length (now (a .output))) in
+    let e = judged .judge-tail .ensures in
+    let shut = refused _ due _ e (tested .is-accepted .ensures) (c .before .if1 .taken) in
+    all-as-was u due _ (tailFrame wall u (now (a .store))) (fallen (u .count)) _ (now (a .store)) (now (a .work)) (now (a .output)) shut e (c .quiet .ensures)
+
+fallen-requires : tie.Need-fallen-requires
+fallen-requires c κs = search needs
+
+whole-frame-requires : tie.Need-whole-frame-requires
+whole-frame-requires c κs =
+    let passed = c .before .before .before .before .before .before in
+    let tested = passed .before in
+    let judged = tested .before in
+    let a = judged .before .before .before .before .args in
+    let u = ofState (a .s) in
+    let store = length (now (a .store)) in
+    let work = length (now (a .work)) in
+    let output = length (now (a .output)) in
+    let due = judgedTail wall u store work output in
+    let through = let-by _ due _ (judged .judge-tail .ensures) (tested .is-accepted .ensures) (passed .if1 .left) in
+    whole-fits u store work output (not (u .busy)) (due-of u (lentOk wall u store work output) _ (not (u .busy)) (is-accepted due through))
+
+same-length : tie.Need-same-length
+same-length c = search needs
+
+same-length-2 : tie.Need-same-length-2
+same-length-2 c = search needs
+
+same-length-3 : tie.Need-same-length-3
+same-length-3 c = search needs
+
+returns-2 : tie.Need-returns-2
+returns-2 c =
+    let ran = c .before .before .before .before .before .before in
+    let fell = ran .before .before .before .before in
+    let passed = fell .before .before .before in
+    let tested = passed .before in
+    let judged = tested .before in
+    let a = judged .before .before .before .before .args in
+    let u = ofState (a .s) in
+    let due = judgedTail wall u (length (now (a .store))) (length (now (a .work))) (length (now (a .output))) in
+    let through = let-by _ due _ (judged .judge-tail .ensures) (tested .is-accepted .ensures) (passed .if1 .left) in
+    let g = ran .whole-frame .ensures in
+    as-frame u due _ _ _ _ _ (now (a .store)) _ (now (a .work)) _ (now (a .output)) _ _ through
+    (no-input u (u .filters) (take (u .frame) (now (a .work))) (now (a .store)))
+    (ap (λ (n : Frames). n .0) (fell .fallen .ensures)) refl (g .0) (g .1 .0) (g .1 .1 .0) (g .1 .1 .1)
+
+pub tail-spec : {M : Type 1} → statement M
+tail-spec =
+    tie.close
+    (tie.spec
+    judge-tail-requires
+    is-accepted-requires
+    quiet-requires
+    returns
+    fallen-requires
+    whole-frame-requires
+    same-length
+    same-length-2
+    same-length-3
+    returns-2)

@@ -1,0 +1,37 @@
+-- `reverb::units::conclude` meets its contract. Assumes nothing.
+use borrow.Author.Needs.{needs}
+use mathlib.Core.Path.{_≡_}
+use mathlib.Core.Bool.{Bool, true, false, not, cond}
+use borrow.Author.Tests.{not-true, not-false}
+use Rattle.samples.specs.declared.Answer.the-variants.{Accepted}
+use Rattle.reverb.proofs.units.conclude.Statement.{statement}
+use Rattle.reverb.proofs.units.conclude.Tie as tie
+
+quiet-requires : tie.Need-quiet-requires
+quiet-requires c κs = search needs
+
+-- what is left where a test is refused, and where it is passed
+when-not : {A : Type 0} (ok : Bool) (r new old : A) → not ok ≡ true → r ≡ old → r ≡ cond ok new old
+when-not ok r new old h e = rw (not-true ok h) e
+
+when : {A : Type 0} (ok : Bool) (r new old : A) → not ok ≡ false → r ≡ new → r ≡ cond ok new old
+when ok r new old h e = rw (not-false ok h) e
+
+returns : tie.Need-returns
+returns c = when-not (c .before .before .args .ok) _ _ _ (c .before .if1 .taken) (c .quiet .ensures)
+
+verdict-requires : tie.Need-verdict-requires
+verdict-requires c κs = search needs
+
+moved-on-requires : tie.Need-moved-on-requires
+moved-on-requires c κs = search needs
+
+returns-2 : tie.Need-returns-2
+returns-2 c =
+    let v = c .before .verdict .ensures in
+    let m = c .moved-on .ensures in
+    when (c .before .before .before .args .ok) _ _ _ (c .before .before .if1 .left) (λ i. record { answer = Accepted; verdict = v i; state = m i })
+
+pub conclude-spec : {M : Type 1} → statement M
+conclude-spec =
+    tie.close (tie.spec quiet-requires returns verdict-requires moved-on-requires returns-2)
