@@ -1,14 +1,14 @@
 -- Demand 1's finiteness: each call keeps all kept numbers finite, whatever its arguments. Assumes nothing.
 use Prim.Native.Nat.{ℕ, zero, suc, _+_}
-use mathlib.Core.Path.{_≡_, refl, sym, ap, _∙_}
-use mathlib.Core.Bool.{Bool, true, false}
+use mathlib.Core.Path.{_≡_, refl, sym, _∙_}
+use mathlib.Core.Bool.{true}
 use mathlib.Core.List.{List, [], _∷_}
 use lib.IntN.{ℤ, pos}
 use lib.Ieee.{Float, ofBits}
 use lib.ListN.{length, getD, take, drop, replicate}
 use Rattle.samples.specs.declared.Answer.{Answer}
 use Rattle.samples.specs.declared.Answer.the-variants.{Accepted, NotFinite}
-use Rattle.samples.specs.Answers.{accept, accepted, orElse}
+use Rattle.samples.specs.Answers.{accept}
 use Rattle.samples.specs.Binary32.{+0, finite}
 use Rattle.samples.specs.Lists.{allFrom}
 use Rattle.samples.specs.Search.{allFinite}
@@ -28,6 +28,7 @@ use Rattle.frame.specs.Frame.{Frame, newFilters}
 use Rattle.frame.specs.Settle.{filtersFinite, frameFinite, nineOf, putRows, settled, fallen}
 use Rattle.reverb.specs.Whole.{counted, wholeAnswer, wholeUnit, wholeStore, applyFrame, applyCount, tailFrame}
 use Rattle.demands.specs.Runs.{World, Call, fresh, reset, apply, tail, after, run, applyDue, tailDue}
+use Rattle.reverb.proofs.Fits.{both-let-by}
 use Rattle.demands.specs.Demands.{Kept, KeptFinite}
 
 -- ---- what is put into finite rings leaves them finite
@@ -61,12 +62,6 @@ judged-finite r e =
     let q = split-and _ _ (p .1) in
     record { filters = p .0; put = q .0; rings = split-and (allFinite (r .output .out)) (allFinite (r .output .rings)) (q .1) .1 }
 
-or-accepted : (a b : Answer) → orElse a b ≡ Accepted → b ≡ Accepted
-or-accepted a b e = accept-either (λ (x : Answer). x ≡ Accepted → b ≡ Accepted) a {new = b} {old = a} (λ p q. q) (λ n q. absurd (none n q)) e
-  where
-    none : accepted a ≡ false → a ≡ Accepted → ⊥
-    none n q = let z : _≡_ {A = Bool} true false = sym (ap accepted q) ∙ n in let y : _≡_ {A = ℕ} 0 1 = cc in native.Mathlib.Nat.not-suc-le-zero (native.Mathlib.Nat.le-of-eq (sym y))
-
 -- ---- a whole call
 
 whole-kept : (m : Model) (u : Hall) (due : Answer) (r : Frame) (count : ℤ) (store : List Float) → allFinite store ≡ true → filtersFinite (u .filters) ≡ true
@@ -74,10 +69,10 @@ whole-kept : (m : Model) (u : Hall) (due : Answer) (r : Frame) (count : ℤ) (st
 unfolding wholeUnit wholeStore settled
 whole-kept m u due r count store s f = record {
   store = accept-either (λ (x : List Float). allFinite x ≡ true) (wholeAnswer due r)
-      (λ e. let h = judged-finite r (or-accepted due (nineOf r) e) in finite-put _ _ 0 _ _ (r .lines .put) (r .output .rings) store (h .put) (h .rings) s)
+      (λ e. let h = judged-finite r (both-let-by due (nineOf r) e .1) in finite-put _ _ 0 _ _ (r .lines .put) (r .output .rings) store (h .put) (h .rings) s)
       (λ n. s);
   filters = accept-either (λ (x : Hall). filtersFinite (x .filters) ≡ true) (wholeAnswer due r)
-      (λ e. judged-finite r (or-accepted due (nineOf r) e) .filters)
+      (λ e. judged-finite r (both-let-by due (nineOf r) e .1) .filters)
       (λ n. f);
 }
 

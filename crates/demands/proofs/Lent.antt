@@ -8,25 +8,19 @@ use borrow.Author.Tests.{ltb-true, eqb-true}
 use lib.Dec.{eqb}
 use lib.Ieee.{Float}
 use lib.ListN.{length, getD}
-use Rattle.samples.specs.declared.Answer.{Answer}
 use Rattle.samples.specs.declared.Answer.the-variants.{Accepted, BadState, BadSize, BadLength}
-use Rattle.samples.specs.Answers.{orElse}
 use Rattle.samples.specs.Sizes.{rateOk, frameOk}
 use Rattle.samples.proofs.Laws.{split-and, needed, all-at}
 use Rattle.delay.specs.declared.Cursors.{Cursors}
 use Rattle.delay.specs.Calls.{both}
-use Rattle.delay.proofs.Laws.{accept-either}
 use Rattle.bands.specs.declared.Times.{Times}
 use Rattle.unit.specs.Hall.{Hall}
 use Rattle.unit.specs.Model.{Model}
 use Rattle.unit.specs.Sizes.{coefficientsLen, storeLen}
 use Rattle.unit.specs.Range.{inRange, linesOk, passesOk, below}
 use Rattle.unit.specs.Judges.{judged, judgedFresh, judgedReset, judgedGiven, givenOk, lentOk, storeOk}
+use Rattle.reverb.proofs.Fits.{both-let-by}
 use Rattle.demands.specs.Runs.{World, applyDue, tailDue}
-
--- the first of two judgements
-pub or-first : (a b : Answer) → orElse a b ≡ Accepted → a ≡ Accepted
-or-first a b e = accept-either (λ (x : Answer). x ≡ Accepted → a ≡ Accepted) a {new = b} {old = a} (λ p q. p) (λ n q. q) e
 
 judged-of : (m : Model) (u : Hall) (lengths line turn : Bool) → judged m u lengths line turn ≡ Accepted → (inRange m u ≡ true) × (lengths ≡ true)
 unfolding judged
@@ -69,7 +63,7 @@ module _ (m : Model) (w : World) (work output : List Float) where
       → Lent m (w .unit) (length (w .store)) × (length input ≡ w .unit .frame)
   apply-lent t coefficients input e =
       let given = givenOk m u (length coefficients) (length input) in
-      let p = judged-of m u (given && lengths) true (not (u .busy)) (or-first _ (judgedGiven t coefficients input) e) in
+      let p = judged-of m u (given && lengths) true (not (u .busy)) (both-let-by _ (judgedGiven t coefficients input) e .0) in
       let q = split-and given lengths (p .1) in
       let r = split-and (eqb (length coefficients) (coefficientsLen m)) (eqb (length input) (u .frame)) (q .0) in
       (lent-of (p .0) (q .1), eqb-true _ _ (r .1))

@@ -6,3 +6,4 @@ pub mod Together
 pub mod Lent
 pub mod LineRings
 pub mod LineLaw
+pub mod UnitRefusals

@@ -2,7 +2,7 @@
 -- call takes the row read off the front and joins the row put to the end, and a refused one leaves it. Assumes nothing.
 use Prim.Native.Nat.{ℕ, _+_, _*_, _%_, _<_, _≤_}
 use mathlib.Core.Path.{_≡_, refl, sym, ap, _∙_}
-use mathlib.Core.Bool.{Bool, true, false}
+use mathlib.Core.Bool.{Bool, true, false, true≢false}
 use mathlib.Core.List.{List, [], _∷_, _++_, append-nil}
 use native.Mathlib.Nat.{zero-add}
 use native.Mathlib.Omega.{arith}
@@ -30,7 +30,8 @@ use Rattle.frame.proofs.RowLaws.{Held}
 use Rattle.reverb.specs.Whole.{after as played, counted, wholeAnswer, wholeUnit, wholeStore, applyFrame, applyCount, tailFrame}
 use Rattle.demands.specs.Runs.{World, Call, fresh, reset, apply, tail, after, applyDue, tailDue}
 use Rattle.demands.specs.LineLaw.{row, plays, AllPlay, ofFrame, ofFrames, Silent, freshly, by-reset, LineLaw}
-use Rattle.demands.proofs.Lent.{or-first, fresh-long, Lent, reset-lent, tail-lent, apply-lent, cursors, within}
+use Rattle.reverb.proofs.Fits.{both-let-by}
+use Rattle.demands.proofs.Lent.{fresh-long, Lent, reset-lent, tail-lent, apply-lent, cursors, within}
 use Rattle.demands.proofs.LineRings.{ringAt, row-long, ring-long, ring-same, read-row, put-row, lines-long, line-length, lines-held}
 use Rattle.demands.proofs.LineRings.{length-moved, moved-at}
 
@@ -54,9 +55,6 @@ record Turn (old new out given : List Float) : Type 0 where
 turns : {old new out given : List Float} → Turn old new out given → (rest : List Float)
     → out ++ take (length rest) (new ++ rest) ≡ take (length (given ++ rest)) (old ++ (given ++ rest))
 turns {old} {given = given} t rest = rw (t .taken, t .joined, length-append) (take-on old given rest (length rest) (t .fits))
-
-true≢false : true ≡ false → ⊥
-true≢false e = let z : _≡_ {A = ℕ} 0 1 = cc in omega arith
 
 module _ (m : Model) (i : ℕ) (h : i < m .lines) where
   -- ---- one call
@@ -130,7 +128,7 @@ module _ (m : Model) (i : ℕ) (h : i < m .lines) where
       → Answered f w (settling w r count) (row f i (r .reads)) (row f i (r .lines .put)) (wholeAnswer due r)
   whole-step f w due r count line reads lent =
       step-of f w (settling w r count) (row f i (r .reads)) (row f i (r .lines .put)) (wholeAnswer due r) line
-      (λ e. let p = lent (or-first due (nineOf r) e) in accepted-step f w r count line (p .0) reads (p .1))
+      (λ e. let p = lent (both-let-by due (nineOf r) e .0) in accepted-step f w r count line (p .0) reads (p .1))
 
   -- the rows put are as long as those read, the input of an apply too
   call-step : (f : ℕ) (w : World) (c : Call) → plays c ≡ true → Line m i f (w .unit)

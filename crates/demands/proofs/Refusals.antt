@@ -51,7 +51,7 @@ use Rattle.audio_buffer.proofs.downmix.Kinds as audio-buffer-downmix-kinds
 use Rattle.audio_buffer.proofs.downmix.Reads as audio-buffer-downmix-reads
 
 -- what is `new` where the answer b accepts and `old` where it refuses is `old`, if the answer given, which is b, refuses
-kept : {A : Type 0} (a b : Answer) (new old : A) {left : A} → left ≡ accept b new old → a ≡ b → accepted a ≡ false → left ≡ old
+pub kept : {A : Type 0} (a b : Answer) (new old : A) {left : A} → left ≡ accept b new old → a ≡ b → accepted a ≡ false → left ≡ old
 kept a b new old e q h = e ∙ accept-no b new old (sym (ap accepted q) ∙ h)
 
 -- ---- delay
