@@ -117,6 +117,8 @@ use Rattle.unit.proofs.judge_apply.Kinds as unit-judge-apply-kinds
 use Rattle.unit.proofs.judge_apply.Reads as unit-judge-apply-reads
 use Rattle.unit.proofs.judge_given.Kinds as unit-judge-given-kinds
 use Rattle.unit.proofs.judge_given.Reads as unit-judge-given-reads
+use Rattle.unit.proofs.room_ok.Kinds as unit-room-ok-kinds
+use Rattle.unit.proofs.room_ok.Reads as unit-room-ok-reads
 use Rattle.unit.proofs.fresh_state.Kinds as unit-fresh-state-kinds
 use Rattle.unit.proofs.fresh_state.Reads as unit-fresh-state-reads
 use Rattle.unit.proofs.in_range.Kinds as unit-in-range-kinds
@@ -135,6 +137,10 @@ use Rattle.frame.proofs.copy.Kinds as frame-copy-kinds
 use Rattle.frame.proofs.copy.Reads as frame-copy-reads
 use Rattle.frame.proofs.filters_finite.Kinds as frame-filters-finite-kinds
 use Rattle.frame.proofs.filters_finite.Reads as frame-filters-finite-reads
+use Rattle.lines.proofs.filters_of.Kinds as lines-filters-of-kinds
+use Rattle.lines.proofs.filters_of.Reads as lines-filters-of-reads
+use Rattle.lines.proofs.run_frame.Kinds as lines-run-frame-kinds
+use Rattle.lines.proofs.run_frame.Reads as lines-run-frame-reads
 use Rattle.reverb.proofs.fresh.Kinds as reverb-fresh-kinds
 use Rattle.reverb.proofs.fresh.Reads as reverb-fresh-reads
 use Rattle.reverb.proofs.reset.Kinds as reverb-reset-kinds
@@ -381,6 +387,9 @@ unit-judge-apply κs a x y s t p q = p ∙ sym (q)
 pub unit-judge-given : OneResult 2 unit-judge-given-kinds.ps unit-judge-given-kinds.r unit-judge-given-reads.Post
 unit-judge-given κs a x y s t p q = p ∙ sym (q)
 
+pub unit-room-ok : OneResult 0 unit-room-ok-kinds.ps unit-room-ok-kinds.r unit-room-ok-reads.Post
+unit-room-ok κs a x y s t p q = p ∙ sym (q)
+
 pub unit-fresh-state : OneResult 0 unit-fresh-state-kinds.ps unit-fresh-state-kinds.r unit-fresh-state-reads.Post
 unit-fresh-state κs a x y s t p q = p ∙ sym (q)
 
@@ -409,6 +418,23 @@ frame-copy-dst κs a x y s t p q = p ∙ sym (q)
 
 pub frame-filters-finite : OneResult 0 frame-filters-finite-kinds.ps frame-filters-finite-kinds.r frame-filters-finite-reads.Post
 frame-filters-finite κs a x y s t p q = p ∙ sym (q)
+
+-- ---- lines
+
+pub lines-filters-of : OneResult 1 lines-filters-of-kinds.ps lines-filters-of-kinds.r lines-filters-of-reads.Post
+lines-filters-of κs a x y s t p q = p ∙ sym (q)
+
+pub lines-run-frame : OneResult 3 lines-run-frame-kinds.ps lines-run-frame-kinds.r lines-run-frame-reads.Post
+lines-run-frame κs a x y s t p q = p .0 ∙ sym (q .0)
+
+pub lines-run-frame-store : OneExit 3 lines-run-frame-kinds.ps lines-run-frame-kinds.r lines-run-frame-reads.Post (λ κs s. s .1 .1 .1 .1 .1 .0 .now)
+lines-run-frame-store κs a x y s t p q = p .1 .0 ∙ sym (q .1 .0)
+
+pub lines-run-frame-work : OneExit 3 lines-run-frame-kinds.ps lines-run-frame-kinds.r lines-run-frame-reads.Post (λ κs s. s .1 .1 .1 .1 .1 .1 .0 .now)
+lines-run-frame-work κs a x y s t p q = p .1 .1 .0 ∙ sym (q .1 .1 .0)
+
+pub lines-run-frame-output : OneExit 3 lines-run-frame-kinds.ps lines-run-frame-kinds.r lines-run-frame-reads.Post (λ κs s. s .1 .1 .1 .1 .1 .1 .1 .0 .now)
+lines-run-frame-output κs a x y s t p q = p .1 .1 .1 ∙ sym (q .1 .1 .1)
 
 -- ---- reverb
 

@@ -25,7 +25,7 @@ use Rattle.unit.specs.Sizes.{filtersLen}
 use Rattle.unit.specs.Fresh.{blank}
 use Rattle.unit.specs.Judges.{judgedFresh, judgedReset}
 use Rattle.frame.specs.Frame.{Frame, newFilters}
-use Rattle.frame.specs.Settle.{filtersFinite, frameFinite, nineOf, putRows, settled, fallen}
+use Rattle.frame.specs.Settle.{filtersFinite, frameFinite, nineOf, putRows, settled, settledIn, fallen}
 use Rattle.reverb.specs.Whole.{counted, wholeAnswer, wholeUnit, wholeStore, applyFrame, applyCount, tailFrame}
 use Rattle.demands.specs.Runs.{World, Call, fresh, reset, apply, tail, after, run, applyDue, tailDue}
 use Rattle.reverb.proofs.Fits.{both-let-by}
@@ -66,7 +66,7 @@ judged-finite r e =
 
 whole-kept : (m : Model) (u : Hall) (due : Answer) (r : Frame) (count : ℤ) (store : List Float) → allFinite store ≡ true → filtersFinite (u .filters) ≡ true
     → Kept (record { unit = wholeUnit m u due r count; store = wholeStore m u due r store })
-unfolding wholeUnit wholeStore settled
+unfolding wholeUnit wholeStore settledIn
 whole-kept m u due r count store s f = record {
   store = accept-either (λ (x : List Float). allFinite x ≡ true) (wholeAnswer due r)
       (λ e. let h = judged-finite r (both-let-by due (nineOf r) e .1) in finite-put _ _ 0 _ _ (r .lines .put) (r .output .rings) store (h .put) (h .rings) s)

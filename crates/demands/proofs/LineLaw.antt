@@ -24,7 +24,7 @@ use Rattle.unit.specs.Sizes.{lineLengths, filtersLen, storeLen}
 use Rattle.unit.specs.Fresh.{freshHall}
 use Rattle.frame.specs.Lines.{readRows, filtersOf}
 use Rattle.frame.specs.Frame.{Frame, frameFrom, newFilters}
-use Rattle.frame.specs.Settle.{settled, nineOf, fallen}
+use Rattle.frame.specs.Settle.{settled, settledIn, nineOf, fallen}
 use Rattle.frame.proofs.FrameLaws.{put-long}
 use Rattle.frame.proofs.RowLaws.{Held}
 use Rattle.reverb.specs.Whole.{after as played, counted, wholeAnswer, wholeUnit, wholeStore, applyFrame, applyCount, tailFrame}
@@ -74,7 +74,7 @@ module _ (m : Model) (i : ℕ) (h : i < m .lines) where
 
   accepted-step : (f : ℕ) (w : World) (r : Frame) (count : ℤ) → Line m i f (w .unit) → Lent m (w .unit) (length (w .store)) → Reads w r
       → length (r .lines .put) ≡ m .lines * w .unit .frame → Step f w (settling w r count) (row f i (r .reads)) (row f i (r .lines .put))
-  unfolding settled storeLen
+  unfolding settledIn storeLen
   accepted-step f′ w r count line lent reads e =
       let u = w .unit in
       let f : ℕ = u .frame in

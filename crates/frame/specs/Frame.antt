@@ -111,8 +111,10 @@ frameFrom m f tail cs fs input rings reads = record {
 abbrev pub passesIn : Model → ℕ → List Float → List Float
 passesIn m f store = drop (total (lineLengths m f)) store
 
--- the frame of a unit u with the filters fs
+-- the frame on the rings of a store, the lines' cursors cs and the allpass rings' qs
+abbrev pub frameIn : Model → ℕ → Bool → List Cursors → List Cursors → List Filter → List Float → List Float → Frame
+frameIn m f tail cs qs fs input store = frameFrom m f tail qs fs input (passesIn m f store) (readRows f (m .lines) 0 (lineLengths m f) cs store)
+
+-- the frame of a unit u
 abbrev pub frameOf : Model → Bool → Hall → List Filter → List Float → List Float → Frame
-frameOf m tail u fs input store =
-    frameFrom m (u .frame) tail (u .passes) fs input (passesIn m (u .frame) store)
-    (readRows (u .frame) (m .lines) 0 (lineLengths m (u .frame)) (u .lines) store)
+frameOf m tail u fs input store = frameIn m (u .frame) tail (u .lines) (u .passes) fs input store

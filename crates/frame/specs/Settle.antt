@@ -39,8 +39,11 @@ putRows f (suc n) i ls cs rows rings store =
     write (take (getD ls i 0) store) (getD cs i (both 0) .write .0) (take f rows)
     ++ putRows f n (i + 1) ls cs (drop f rows) rings (drop (getD ls i 0) store)
 
-unfoldable pub settled : Model → Hall → Frame → List Float → List Float
-settled m u r store = putRows (u .frame) (m .lines) 0 (lineLengths m (u .frame)) (u .lines) (r .lines .put) (r .output .rings) store
+unfoldable pub settledIn : Model → ℕ → List Cursors → Frame → List Float → List Float
+settledIn m f cs r store = putRows f (m .lines) 0 (lineLengths m f) cs (r .lines .put) (r .output .rings) store
+
+abbrev pub settled : Model → Hall → Frame → List Float → List Float
+settled m u r store = settledIn m (u .frame) (u .lines) r store
 
 -- cursors of a ring of length l, f samples on: they go round a ring that is shorter than a frame more than once
 abbrev pub movedBy : ℕ → ℕ → Cursors → Cursors

@@ -1,11 +1,3 @@
-pub mod LineParts
-pub mod LineLaws
-pub mod LineTurns
-pub mod LineSums
-pub mod LineFills
-pub mod RowJoins
 pub mod Fits
-pub mod Parts
 pub mod Outcomes
-pub mod FrameParts
 pub mod WholeParts

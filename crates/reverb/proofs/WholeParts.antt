@@ -1,13 +1,15 @@
--- A whole frame of a unit by the numbers of its model, and what a whole call leaves. Assumes nothing.
-use mathlib.Core.Path.{_≡_, refl, sym, _∙_}
+-- What a whole frame and a whole call leave of a unit and of the memory lent. Assumes nothing.
+use mathlib.Core.Path.{_≡_, refl, sym, ap, _∙_}
 use mathlib.Core.Bool.{Bool, true, false, cond}
 use mathlib.Core.List.{List, [], _++_, append-nil}
 use Prim.Native.Nat.{ℕ, _-_, _≤_}
 use native.Mathlib.Omega.{arith}
+use lib.Dec.{eqb}
 use lib.Ieee.{Float}
 use lib.IntN.{ℤ}
 use lib.ListN.{length, take, drop, replicate, length-append, length-drop, drop-of-length-le}
 use lib.Seq.{take-all, take-at, length-take-le}
+use borrow.Author.Tests.{eq-eqb}
 use borrow.Rule.Slice.PartMut.{putMid, midOf}
 use Rattle.samples.specs.declared.Answer.{Answer}
 use Rattle.samples.specs.declared.Answer.the-variants.{Accepted, NotFinite}
@@ -19,54 +21,58 @@ use Rattle.audio_buffer.specs.Verdict.{verdictOf}
 use Rattle.iir.specs.declared.Filter.{Filter}
 use Rattle.unit.specs.Hall.{Hall}
 use Rattle.unit.specs.Model.{wall}
-use Rattle.unit.specs.Sizes.{lineLengths}
+use Rattle.unit.specs.Fresh.{blank}
+use Rattle.frame.specs.Lines.{filtersOf}
 use Rattle.frame.specs.Frame.{Frame, frameFrom, frameOf, newFilters, lineRows}
 use Rattle.frame.specs.Settle.{frameFinite, nineOf, settled}
 use Rattle.frame.specs.Steps.{copied}
+use Rattle.lines.specs.declared.Stepped.{Stepped}
+use Rattle.lines.specs.Steps.{judgedOutput, stepped, steppedStore, steppedWork, steppedOutput}
 use Rattle.reverb.specs.declared.Outcome.{Outcome}
-use Rattle.reverb.specs.Work.{frameBy}
-use Rattle.reverb.specs.Steps.{steppedStore, steppedOutput}
-use Rattle.reverb.specs.Whole.{after, outcome, wholeAnswer, wholeOutcome, wholeUnit, wholeStore, wholeWork, wholeOutput}
-use Rattle.reverb.proofs.Fits.{every-line}
+use Rattle.reverb.specs.Whole.{movedOn, after, outcome, wholeAnswer, wholeOutcome, wholeUnit, wholeStore, wholeWork, wholeOutput}
 
-module _ (u : Hall) (ls : List ℕ) (e : ls ≡ lineLengths wall (u .frame)) where
-  -- the frame of sixteen lines, the wall unit's factor and its divisor is the unit's
-  pub frame-of : (tail : Bool) (fs : List Filter) (input store : List Float)
-      → frameBy 16 (u .frame) (wall .factor) (wall .divisor) tail ls (u .lines) (wall .passes) (u .passes) fs input store ≡ frameOf wall tail u fs input store
-  unfolding frameFrom
-  frame-of tail fs input store = rw (e, every-line (u .frame)) refl
+-- what is left of a unit u by a frame r that nothing else refuses
+abbrev pub Played : Hall → Frame → ℤ → Outcome → List Float → List Float → List Float → List Float → List Float → List Float → Type 0
+Played u r count y store store′ work work′ output output′ =
+    (y ≡ wholeOutcome wall u Accepted r count)
+    × ((store′ ≡ wholeStore wall u Accepted r store) × ((work′ ≡ replicate (length work) +0) × (output′ ≡ wholeOutput Accepted r output)))
 
-  pub store-of : (r r′ : Frame) (store : List Float) → r ≡ r′ → steppedStore 16 (u .frame) ls (u .lines) r store ≡ wholeStore wall u Accepted r′ store
-  unfolding steppedStore wholeStore settled
-  store-of r r′ store h = rw h (go (frameFinite r′) refl)
-    where
-      go : (b : Bool) → frameFinite r′ ≡ b → steppedStore 16 (u .frame) ls (u .lines) r′ store ≡ wholeStore wall u Accepted r′ store
-      go true q = rw (q, e) refl
-      go false q = rw q refl
+-- the outcome that is made of what the frame came to
+abbrev pub concluded : Hall → Stepped → ℤ → Outcome
+concluded u x count =
+    cond (x .ok) (outcome Accepted (movedOn u (x .lines) (x .passes) (x .filters) count) (verdictOf count)) (outcome NotFinite u TailComplete)
 
-pub output-of : (r r′ : Frame) (output : List Float) → r ≡ r′ → steppedOutput r output ≡ wholeOutput Accepted r′ output
-unfolding steppedOutput wholeOutput
-output-of r r′ output h = rw h (go (frameFinite r′) refl)
-  where
-    go : (b : Bool) → frameFinite r′ ≡ b → steppedOutput r′ output ≡ wholeOutput Accepted r′ output
-    go true q = rw q refl
-    go false q = rw q refl
-
-pub outcome-of : (u : Hall) (r : Frame) (count : ℤ) (ok : Bool) (gs : List Filter) → ok ≡ frameFinite r → gs ≡ newFilters r
-    → cond ok (outcome Accepted (after wall u gs count) (verdictOf count)) (outcome NotFinite u TailComplete) ≡ wholeOutcome wall u Accepted r count
-unfolding wholeUnit
-outcome-of u r count ok gs e q = rw (e, q) (go (frameFinite r) refl)
+-- where there is room, what a frame came to and left is what a whole call gives and leaves
+pub played : (u : Hall) (fs : List Filter) (r : Frame) (count : ℤ) (room : Bool) (x : Stepped) (y : Outcome) (store store′ work work′ output output′ : List Float)
+    → room ≡ true → x ≡ stepped wall (u .frame) (u .lines) (u .passes) room fs r → store′ ≡ steppedStore wall (u .frame) (u .lines) room r store
+    → work′ ≡ steppedWork room work → output′ ≡ steppedOutput room r output → y ≡ concluded u x count → Played u r count y store store′ work work′ output output′
+unfolding stepped steppedStore steppedWork steppedOutput judgedOutput wholeUnit wholeStore wholeOutput
+played u fs r count room x y store store′ work work′ output output′ h ex es ew eo ey =
+    let q : Played u r count (concluded u (stepped wall (u .frame) (u .lines) (u .passes) true fs r) count)
+    store (steppedStore wall (u .frame) (u .lines) true r store) work (steppedWork true work) output (steppedOutput true r output) = go (frameFinite r) refl in
+    let here = ey ∙ ap (λ (z : Stepped). concluded u z count) (ex ∙ ap (λ (b : Bool). stepped wall (u .frame) (u .lines) (u .passes) b fs r) h) in (
+      here ∙ q .0,
+      (
+        es ∙ ap (λ (b : Bool). steppedStore wall (u .frame) (u .lines) b r store) h ∙ q .1 .0,
+        (ew ∙ ap (λ (b : Bool). steppedWork b work) h ∙ q .1 .1 .0, eo ∙ ap (λ (b : Bool). steppedOutput b r output) h ∙ q .1 .1 .1),
+      ),
+    )
   where
     go : (b : Bool) → frameFinite r ≡ b
-        → cond (frameFinite r) (outcome Accepted (after wall u (newFilters r) count) (verdictOf count)) (outcome NotFinite u TailComplete)
-        ≡ wholeOutcome wall u Accepted r count
-    go true h = rw h refl
-    go false h = rw h refl
+        → Played u r count (concluded u (stepped wall (u .frame) (u .lines) (u .passes) true fs r) count)
+        store (steppedStore wall (u .frame) (u .lines) true r store) work (steppedWork true work) output (steppedOutput true r output)
+    go true e = rw e (refl, (refl, (refl, refl)))
+    go false e = rw e (refl, (refl, (refl, refl)))
 
 -- "A tail adds no input"
 pub no-input : (u : Hall) (fs : List Filter) (input store : List Float) → frameOf wall true u fs input store ≡ frameOf wall true u fs [] store
 unfolding frameFrom lineRows
 no-input u fs input store = refl
+
+-- "255 coefficients .. five per filter"
+pub filters-given : (coefficients : List Float) (fs : List Filter) → length coefficients ≡ 255
+    → fs ≡ cond (eqb (length coefficients) 255) (filtersOf 51 coefficients) (replicate 51 blank) → fs ≡ filtersOf 51 coefficients
+filters-given coefficients fs h e = rw (eq-eqb (length coefficients) 255 h) at e
 
 -- filters and inputs that are equal give one frame
 pub one-frame : (u : Hall) (fs fs′ : List Filter) (input input′ store : List Float) → fs ≡ fs′ → input ≡ input′

@@ -1,3 +1,1 @@
-pub mod Work
-pub mod Steps
 pub mod Whole

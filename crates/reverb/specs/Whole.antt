@@ -11,6 +11,7 @@ use Rattle.samples.specs.Binary32.{+0}
 use Rattle.audio_buffer.specs.declared.AudioEffectState.{AudioEffectState}
 use Rattle.audio_buffer.specs.declared.AudioEffectState.the-variants.{TailComplete}
 use Rattle.audio_buffer.specs.Verdict.{verdictOf}
+use Rattle.delay.specs.declared.Cursors.{Cursors}
 use Rattle.iir.specs.declared.Filter.{Filter}
 use Rattle.bands.specs.declared.Times.{Times}
 use Rattle.bands.specs.Tail.{tailCount}
@@ -54,13 +55,13 @@ resetUnit m u store = accept (judgedReset m u store) (counted u (pos 0)) u
 abbrev pub resetStore : Model → Hall → List Float → List Float
 resetStore m u store = accept (judgedReset m u (length store)) (replicate (length store) +0) store
 
--- the unit after a frame that is accepted: its cursors moved, its filters those of the frame, its count set
-abbrev pub after : Model → Hall → List Filter → ℤ → Hall
-after m u filters count = record {
+-- the unit with other cursors, other filters and another count
+abbrev pub movedOn : Hall → List Cursors → List Cursors → List Filter → ℤ → Hall
+movedOn u lines passes filters count = record {
   rate = u .rate;
   frame = u .frame;
-  lines = allMoved (u .frame) (lineLengths m (u .frame)) (u .lines);
-  passes = allMoved (u .frame) (m .passes) (u .passes);
+  lines = lines;
+  passes = passes;
   count = count;
   filters = filters;
   busy = u .busy;
@@ -69,6 +70,11 @@ after m u filters count = record {
   next = u .next;
   before = u .before;
 }
+
+-- the unit after a frame that is accepted: its cursors moved, its filters those of the frame, its count set
+abbrev pub after : Model → Hall → List Filter → ℤ → Hall
+after m u filters count =
+    movedOn u (allMoved (u .frame) (lineLengths m (u .frame)) (u .lines)) (allMoved (u .frame) (m .passes) (u .passes)) filters count
 
 -- "Whole apply": step 1's filters, and step 6's count
 abbrev pub applyFrame : Model → Hall → List Float → List Float → List Float → Frame

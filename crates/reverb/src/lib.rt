@@ -1,19 +1,16 @@
 // The unit's calls: each takes the state by value and gives it back.
 //
-// Its contracts cite `specs/`: how a frame lies in the work memory, and what each call answers and
-// leaves.
-mod lines;
-mod rows;
+// Its contracts cite `specs/`: what each call answers, and what it leaves of the state and of the
+// memory lent.
 mod units;
-mod whole;
 
-use crate::lines::filters_of;
 use crate::units::fallen;
 use crate::units::quiet;
-use crate::whole::whole_frame;
+use crate::units::whole_frame;
 use audio_buffer::AudioEffectState;
 use bands::Times;
 use bands::tail_count;
+use lines::filters_of;
 use samples::Answer;
 use samples::Frames;
 use samples::clear;

@@ -1,26 +1,26 @@
-// What a frame leaves of a unit's state, and the outcome of a call.
+// A whole frame of a unit, what it leaves of the state, and the outcome of a call.
 use crate::Outcome;
-use crate::lines::move_lines;
-use crate::lines::move_passes;
 use audio_buffer::AudioEffectState;
 use audio_buffer::verdict;
 use iir::Filter;
+use lines::Stepped;
+use lines::run_frame;
 use samples::Answer;
 use samples::Frames;
-use unit::PASSES;
 use unit::State;
 ghost use mathlib.Core.Path.{_≡_};
-ghost use mathlib.Core.Bool.{cond};
-ghost use Prim.Native.Nat.{_≤_};
+ghost use mathlib.Core.Bool.{true, cond};
+ghost use lib.ListN.{length, take, replicate};
+ghost use Rattle.samples.specs.Binary32.{+0};
 ghost use Rattle.samples.specs.declared.Answer.the-variants.{Accepted, NotFinite};
 ghost use Rattle.audio_buffer.specs.declared.AudioEffectState.the-variants.{TailComplete};
 ghost use Rattle.audio_buffer.specs.Verdict.{verdictOf};
 ghost use Rattle.unit.specs.Hall.{ofState, toState};
 ghost use Rattle.unit.specs.Model.{wall};
-ghost use Rattle.unit.specs.Sizes.{lineLengths};
+ghost use Rattle.unit.specs.Judges.{roomOk};
+ghost use Rattle.frame.specs.Frame.{frameOf};
 ghost use Rattle.frame.specs.Settle.{fallen};
-ghost use Rattle.reverb.specs.Work.{Within};
-ghost use Rattle.reverb.specs.Whole.{after, outcome};
+ghost use Rattle.reverb.specs.Whole.{movedOn, outcome, wholeOutcome, wholeStore, wholeOutput};
 
 // The outcome of a call that leaves no tail to wait for.
 pub(crate) fn quiet(answer: Answer, state: State) -> Outcome
@@ -33,17 +33,13 @@ pub(crate) fn quiet(answer: Answer, state: State) -> Outcome
     }
 }
 
-// The unit after an accepted frame: its rings moved on, and the frame's filters and count. `ls` are
-// the lengths of its lines.
-pub(crate) fn moved_on(s: State, ls: [usize; 16], filters: [Filter; 51], count: Frames) -> State
-    requires { ⌜ (s .frame ≤ 1024) × (ls ≡ lineLengths wall (s .frame)) × Within 16 0 ls (s .lines) × Within 4 0 (wall .passes) (s .passes) ⌝ }
-    ensures { λ r. ⌜ r ≡ toState (after wall (ofState s) filters (count .0)) ⌝ }
+// The unit after an accepted frame: its rings moved on, and the frame's filters and count.
+pub(crate) fn moved_on(s: State, frame: Stepped, count: Frames) -> State
+    ensures { λ r. ⌜ r ≡ toState (movedOn (ofState s) (frame .lines) (frame .passes) (frame .filters) (count .0)) ⌝ }
 {
-    let f = s.frame;
-    let cs = s.lines;
-    let qs = s.passes;
-    let lines = move_lines(16, f, ls, cs);
-    let passes = move_passes(f, PASSES, qs);
+    let lines = frame.lines;
+    let passes = frame.passes;
+    let filters = frame.filters;
     let mut t = s;
     t.lines = lines;
     t.passes = passes;
@@ -52,25 +48,42 @@ pub(crate) fn moved_on(s: State, ls: [usize; 16], filters: [Filter; 51], count: 
     t
 }
 
-// The outcome of a frame that nothing else refuses: 9 unless it is `ok`.
-pub(crate) fn conclude(
-    ok: bool,
-    s: State,
-    ls: [usize; 16],
-    filters: [Filter; 51],
-    count: Frames,
-) -> Outcome
-    requires { ⌜ (s .frame ≤ 1024) × (ls ≡ lineLengths wall (s .frame)) × Within 16 0 ls (s .lines) × Within 4 0 (wall .passes) (s .passes) ⌝ }
-    ensures { λ r. ⌜ r ≡ cond ok (outcome Accepted (after wall (ofState s) filters (count .0)) (verdictOf (count .0))) (outcome NotFinite (ofState s) TailComplete) ⌝ }
+// The outcome of a frame that nothing else refuses: 9 unless all of it is finite.
+pub(crate) fn conclude(s: State, frame: Stepped, count: Frames) -> Outcome
+    ensures { λ r. ⌜ r ≡ cond (frame .ok) (outcome Accepted (movedOn (ofState s) (frame .lines) (frame .passes) (frame .filters) (count .0)) (verdictOf (count .0))) (outcome NotFinite (ofState s) TailComplete) ⌝ }
 {
-    if !ok {
+    if !frame.ok {
         return quiet(Answer::NotFinite, s);
     }
     Outcome {
         answer: Answer::Accepted,
         verdict: verdict(count),
-        state: moved_on(s, ls, filters, count),
+        state: moved_on(s, frame, count),
     }
+}
+
+// A whole frame of a unit, with the filters `fs`, that nothing but its own numbers can refuse. The
+// work memory begins with the input.
+pub(crate) fn whole_frame(
+    s: State,
+    tail: bool,
+    fs: [Filter; 51],
+    count: Frames,
+    store: &mut [f32],
+    work: &mut [f32],
+    output: &mut [f32],
+) -> Outcome
+    requires { ⌜ roomOk wall (s .frame) (s .lines) (s .passes) (length (now store)) (length (now work)) (length (now output)) ≡ true ⌝ }
+    ensures { λ r. ⌜ r ≡ wholeOutcome wall (ofState s) Accepted (frameOf wall tail (ofState s) fs (take (s .frame) (now (work .entry))) (now (store .entry))) (count .0) ⌝ }
+    ensures { λ _. ⌜ now (store .exit) ≡ wholeStore wall (ofState s) Accepted (frameOf wall tail (ofState s) fs (take (s .frame) (now (work .entry))) (now (store .entry))) (now (store .entry)) ⌝ }
+    ensures { λ _. ⌜ now (work .exit) ≡ replicate (length (now (work .entry))) +0 ⌝ }
+    ensures { λ _. ⌜ now (output .exit) ≡ wholeOutput Accepted (frameOf wall tail (ofState s) fs (take (s .frame) (now (work .entry))) (now (store .entry))) (now (output .entry)) ⌝ }
+{
+    let f = s.frame;
+    let cs = s.lines;
+    let qs = s.passes;
+    let r = run_frame(f, tail, cs, qs, fs, store, work, output);
+    conclude(s, r, count)
 }
 
 // One frame less to come, down to the least count there is.

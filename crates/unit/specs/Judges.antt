@@ -12,12 +12,13 @@ use Rattle.samples.specs.declared.Found.the-variants.{At, Nothing}
 use Rattle.samples.specs.Answers.{need, orElse}
 use Rattle.samples.specs.Search.{firstBad, allFinite}
 use Rattle.samples.specs.Sizes.{rateOk, frameOk}
+use Rattle.delay.specs.declared.Cursors.{Cursors}
 use Rattle.bands.specs.declared.Times.{Times}
 use Rattle.bands.specs.Times.{timesOk}
 use Rattle.unit.specs.Hall.{Hall}
 use Rattle.unit.specs.Model.{Model}
 use Rattle.unit.specs.Sizes.{storeLen, workLen, coefficientsLen}
-use Rattle.unit.specs.Range.{inRange}
+use Rattle.unit.specs.Range.{linesOk, passesOk, inRange}
 
 -- fresh: 2, then 3
 unfoldable pub judgedFresh : Model → ℕ → ℕ → ℕ → Answer
@@ -37,6 +38,13 @@ workOk m u work = eqb work (workLen m (u .frame))
 -- what a whole call and a close are lent: store, work and output
 abbrev pub lentOk : Model → Hall → ℕ → ℕ → ℕ → Bool
 lentOk m u store work output = storeOk m u store && (workOk m u work && eqb output (u .frame))
+
+-- what a frame of f samples asks: f itself, cursors within their rings, and the lengths of the memory lent
+unfoldable pub roomOk : Model → ℕ → List Cursors → List Cursors → ℕ → ℕ → ℕ → Bool
+roomOk m f lines passes store work output =
+    frameOk f
+    && ((linesOk m f lines && passesOk m passes)
+    && (eqb store (storeLen m f) && (eqb work (workLen m f) && eqb output f)))
 
 -- what an apply is given: coefficients and input
 abbrev pub givenOk : Model → Hall → ℕ → ℕ → Bool

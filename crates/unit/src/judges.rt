@@ -1,10 +1,13 @@
 // What is due of a call: the lowest number that applies.
 use crate::State;
 use crate::range::in_range;
+use crate::range::lines_ok;
+use crate::range::passes_ok;
 use crate::sizes::store_ok;
 use crate::sizes::work_ok;
 use bands::Times;
 use bands::times_ok;
+use delay::Cursors;
 use samples::Answer;
 use samples::Found;
 use samples::all_finite;
@@ -21,7 +24,7 @@ ghost use Rattle.samples.specs.Answers.{orElse};
 ghost use Rattle.unit.specs.Hall.{ofState};
 ghost use Rattle.unit.specs.Model.{wall};
 ghost use Rattle.unit.specs.Sizes.{storeLen, workLen};
-ghost use Rattle.unit.specs.Judges.{judged, judgedFresh, judgedReset, judgedTail, judgedApply, judgedGiven, badInput};
+ghost use Rattle.unit.specs.Judges.{judged, judgedFresh, judgedReset, judgedTail, judgedApply, judgedGiven, badInput, roomOk};
 
 // A call on a state: `lengths` says that every lent slice has its length, `line` that the line is
 // one of the unit's, and `turn` that it is the call's turn.
@@ -102,6 +105,27 @@ fn lent_ok(frame: usize, store: usize, work: usize, output: usize) -> bool
     and(
         store_ok(frame, store),
         and(work_ok(frame, work), output == frame),
+    )
+}
+
+// Whether a frame of `frame` samples can be played: on rings with these cursors, and in memory of
+// these lengths.
+pub fn room_ok(
+    frame: usize,
+    lines: [Cursors; 16],
+    passes: [Cursors; 4],
+    store: usize,
+    work: usize,
+    output: usize,
+) -> bool
+    ensures { λ r. ⌜ r ≡ roomOk wall frame lines passes store work output ⌝ }
+{
+    and(
+        frame_ok(frame),
+        and(
+            and(lines_ok(lines, frame), passes_ok(passes)),
+            lent_ok(frame, store, work, output),
+        ),
     )
 }
 

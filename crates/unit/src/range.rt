@@ -48,7 +48,7 @@ fn blank_open(s: State) -> bool
 }
 
 // Whether both cursors of each line are within its ring.
-fn lines_ok(cs: [Cursors; 16], frame: usize) -> bool
+pub(crate) fn lines_ok(cs: [Cursors; 16], frame: usize) -> bool
     ensures { λ r. ⌜ r ≡ linesOk wall frame cs ⌝ }
 {
     let mut ok = true;
@@ -60,7 +60,7 @@ fn lines_ok(cs: [Cursors; 16], frame: usize) -> bool
 }
 
 // Whether both cursors of each allpass ring are within it.
-fn passes_ok(cs: [Cursors; 4]) -> bool
+pub(crate) fn passes_ok(cs: [Cursors; 4]) -> bool
     ensures { λ r. ⌜ r ≡ passesOk wall cs ⌝ }
 {
     let mut ok = true;

@@ -13,7 +13,7 @@ use Rattle.unit.specs.Judges.{judgedApply}
 use Rattle.reverb.specs.Whole.{applyFrame, applyCount}
 use Rattle.reverb.proofs.Fits.{ApplyFits, apply-fits}
 use Rattle.reverb.proofs.Outcomes.{refused, let-by}
-use Rattle.reverb.proofs.WholeParts.{begun, one-frame, all-as-was, as-frame}
+use Rattle.reverb.proofs.WholeParts.{begun, filters-given, one-frame, all-as-was, as-frame}
 use Rattle.samples.proofs.Laws.{is-accepted}
 use Rattle.reverb.proofs.apply.Statement.{statement}
 use Rattle.reverb.proofs.apply.Tie as tie
@@ -23,9 +23,9 @@ use Rattle.unit.proofs.judge_apply.Reads as judge-apply-reads
 use Rattle.samples.proofs.is_accepted.Reads as is-accepted-reads
 use Rattle.reverb.proofs.units.quiet.Reads as quiet-reads
 use Rattle.bands.proofs.tail_count.Reads as tail-count-reads
-use Rattle.reverb.proofs.lines.filters_of.Reads as filters-of-reads
+use Rattle.lines.proofs.filters_of.Reads as filters-of-reads
 use Rattle.frame.proofs.copy.Reads as copy-reads
-use Rattle.reverb.proofs.whole.whole_frame.Reads as whole-frame-reads
+use Rattle.reverb.proofs.units.whole_frame.Reads as whole-frame-reads
 
 judge-apply-requires : tie.Need-judge-apply-requires
 judge-apply-requires c κs = search needs
@@ -98,7 +98,7 @@ tail-count-requires : tie.Need-tail-count-requires
 tail-count-requires c κs = search needs
 
 filters-of-requires : tie.Need-filters-of-requires
-filters-of-requires c κs = fits (c .before) .given
+filters-of-requires c κs = search needs
 
 sub-copy : tie.Need-sub-copy
 sub-copy c = search needs
@@ -119,7 +119,7 @@ whole-frame-requires c κs =
     let a = p .before .before .before .before .before .before .before .before .args in
     let h = fits p in
     let b = begun (a .s .frame) (now (a .input)) (now (a .work)) _ (h .row) (h .holds) (copied .copy .ensures) in
-    rw (b .1) (h .whole)
+    rw (b .1) (h .room)
 
 same-length : tie.Need-same-length
 same-length c = search needs
@@ -141,7 +141,7 @@ returns-2 c =
     let u = ofState (a .s) in
     let h = fits p in
     let b = begun (u .frame) (now (a .input)) (now (a .work)) _ (h .row) (h .holds) (copied .copy .ensures) in
-    let r = one-frame u _ _ _ _ (now (a .store)) (filtered .filters-of .ensures) (b .0) in
+    let r = one-frame u _ _ _ _ (now (a .store)) (filters-given (now (a .coefficients)) _ (h .given) (filtered .filters-of .ensures)) (b .0) in
     let count = ap (λ (n : Counted). n .count .0) (counted .tail-count .ensures) ∙ ap pos (h .count) in
     let g = ran .whole-frame .ensures in
     as-frame u _ _ _ _ _ _ (now (a .store)) _ (now (a .work)) _ (now (a .output)) _ _ (through p) r count (b .1) (g .0) (g .1 .0) (g .1 .1 .0) (g .1 .1 .1)

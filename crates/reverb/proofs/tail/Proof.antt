@@ -10,7 +10,7 @@ use Rattle.unit.specs.Model.{wall}
 use Rattle.unit.specs.Judges.{judgedTail, lentOk}
 use Rattle.frame.specs.Settle.{fallen}
 use Rattle.reverb.specs.Whole.{tailFrame}
-use Rattle.reverb.proofs.Fits.{due-of, whole-fits}
+use Rattle.reverb.proofs.Fits.{due-of, room-of}
 use Rattle.reverb.proofs.Outcomes.{refused, let-by}
 use Rattle.reverb.proofs.WholeParts.{no-input, all-as-was, as-frame}
 use Rattle.samples.proofs.Laws.{is-accepted}
@@ -52,7 +52,8 @@ whole-frame-requires c κs =
     let output = length (now (a .output)) in
     let due = judgedTail wall u store work output in
     let through = let-by _ due _ (judged .judge-tail .ensures) (tested .is-accepted .ensures) (passed .if1 .left) in
-    whole-fits u store work output (not (u .busy)) (due-of u (lentOk wall u store work output) _ (not (u .busy)) (is-accepted due through))
+    let d = due-of u (lentOk wall u store work output) _ (not (u .busy)) (is-accepted due through) in
+    room-of u store work output d (d .lent)
 
 same-length : tie.Need-same-length
 same-length c = search needs

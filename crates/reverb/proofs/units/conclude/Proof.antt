@@ -18,7 +18,7 @@ when : {A : Type 0} (ok : Bool) (r new old : A) → not ok ≡ false → r ≡ n
 when ok r new old h e = rw (not-false ok h) e
 
 returns : tie.Need-returns
-returns c = when-not (c .before .before .args .ok) _ _ _ (c .before .if1 .taken) (c .quiet .ensures)
+returns c = when-not (c .before .before .before .args .frame .ok) _ _ _ (c .before .if1 .taken) (c .quiet .ensures)
 
 verdict-requires : tie.Need-verdict-requires
 verdict-requires c κs = search needs
@@ -30,7 +30,7 @@ returns-2 : tie.Need-returns-2
 returns-2 c =
     let v = c .before .verdict .ensures in
     let m = c .moved-on .ensures in
-    when (c .before .before .before .args .ok) _ _ _ (c .before .before .if1 .left) (λ i. record { answer = Accepted; verdict = v i; state = m i })
+    when (c .before .before .before .before .args .frame .ok) _ _ _ (c .before .before .if1 .left) (λ i. record { answer = Accepted; verdict = v i; state = m i })
 
 pub conclude-spec : {M : Type 1} → statement M
 conclude-spec =

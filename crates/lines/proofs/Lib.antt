@@ -1,0 +1,9 @@
+pub mod LineParts
+pub mod LineLaws
+pub mod LineTurns
+pub mod LineSums
+pub mod LineFills
+pub mod RowJoins
+pub mod Parts
+pub mod FrameParts
+pub mod Room

@@ -1,0 +1,70 @@
+-- What the bounds of the workers over lines give: of the rows that are left, and of the rings. Assumes nothing.
+use mathlib.Core.Path.{_≡_, sym, _∙_}
+use mathlib.Core.List.{List}
+use Prim.Native.Nat.{ℕ, zero, suc, _+_, _*_, _-_, _<_, _≤_}
+use native.Mathlib.Nat.{suc-mul, zero-mul, add-zero, sub-zero}
+use native.Mathlib.Omega.{arith}
+use lib.ListN.{getD}
+use Rattle.delay.specs.declared.Cursors.{Cursors}
+use Rattle.delay.specs.Calls.{both}
+use Rattle.delay.proofs.Laws.{Moves}
+use Rattle.frame.proofs.RowLaws.{Held}
+use Rattle.lines.specs.Work.{Rings, Within}
+
+-- one line more is left
+pub more : (n i : ℕ) → i < n → n - i ≡ suc (n - (i + 1))
+more n i h = omega arith
+
+-- ---- of n rows of f samples those from row i on are left: the first of them begins at b, and the last ends at len
+
+abbrev pub Left : ℕ → ℕ → ℕ → ℕ → ℕ → Type 0
+Left n f i b len = (i ≤ n) × (b + (n - i) * f ≡ len)
+
+pub all-left : (n f b len : ℕ) → b + n * f ≡ len → Left n f 0 b len
+all-left n f b len e = (omega arith, rw (sub-zero n) e)
+
+module _ (n f i b len : ℕ) (l : Left n f i b len) where
+  pub row-fits : i < n → b + f ≤ len
+  row-fits h = omega (arith, rw (more n i h, suc-mul) at (l .1))
+
+  pub row-done : i < n → Left n f (i + 1) (b + f) len
+  row-done h = (omega arith, omega (arith, rw (more n i h, suc-mul) at (l .1)))
+
+  pub none-left : n ≤ i → b ≡ len
+  none-left h = let z : n - i ≡ 0 = omega arith in sym (add-zero b) ∙ (rw (z, zero-mul) at (l .1))
+
+-- ---- the rings of n lines
+
+module _ (f : ℕ) (ls : List ℕ) (cs : List Cursors) (len : ℕ) where
+  rings-held : (n i a : ℕ) → Rings f n i a ls cs len → Held f n i ls (len - a)
+  rings-held zero i a r = tt
+  rings-held (suc n) i a r =
+      let l = getD ls i 0 in
+      let e : len - a - l ≡ len - (a + l) = omega arith in
+      (r .0, omega (arith, r .4), rw e (rings-held n (i + 1) (a + l) (r .5)))
+
+  -- hold a frame each
+  pub lines-held : (n : ℕ) → Rings f n 0 0 ls cs len → Held f n 0 ls len
+  lines-held n r = rw sub-zero at (rings-held n 0 0 r)
+
+  -- have their cursors within them
+  pub rings-within : (n i a : ℕ) → Rings f n i a ls cs len → Within n i ls cs
+  rings-within zero i a r = tt
+  rings-within (suc n) i a r = (r .1, r .2, r .3, rings-within n (i + 1) (a + getD ls i 0) (r .5))
+
+  module _ (n i a : ℕ) (r : Rings f (n - i) i a ls cs len) (h : i < n) where
+    -- are those of line i and of the lines after it
+    pub here : Rings f (suc (n - (i + 1))) i a ls cs len
+    here = rw (more n i h) at r
+
+    -- the ring and the row of line i lie within what is lent
+    pub turn-fits : (b rows : ℕ) → Left n f i b rows → (a + getD ls i 0 ≤ len) × (b + f ≤ rows)
+    turn-fits b rows l = (here .4, row-fits n f i b rows l h)
+
+    -- a frame of line i is one that its ring takes
+    pub moves : 0 < f → Moves (getD ls i 0) (getD cs i (both 0)) f
+    moves some = record {
+      ready = record { some = omega (arith, here .2); small = here .1; reads = here .2; writes = here .3 };
+      some = some;
+      fits = here .0;
+    }

@@ -1,0 +1,174 @@
+-- From room for a frame to what its steps ask of the memory lent. Assumes nothing.
+use mathlib.Core.Path.{_≡_, refl, sym, ap, _∙_}
+use mathlib.Core.Bool.{Bool, true, _&&_}
+use mathlib.Core.List.{List, [], _∷_}
+use Prim.Native.Nat.{ℕ, zero, suc, _+_, _*_, _≤_, _<_}
+use native.Mathlib.Nat.{add-zero, zero-add, add-suc, suc-add, not-suc-le-zero}
+use native.Mathlib.Omega.{arith}
+use lib.Dec.{eqb}
+use lib.Ieee.{Float}
+use lib.ListN.{length, getD, take}
+use lib.Seq.{take-all}
+use borrow.Author.Tests.{ltb-true, lt-ltb, eqb-true}
+use Rattle.samples.specs.Lists.{allFrom}
+use Rattle.samples.specs.Sizes.{frameOk}
+use Rattle.samples.proofs.Laws.{split-and, frame-of}
+use Rattle.delay.specs.declared.Cursors.{Cursors}
+use Rattle.delay.specs.Calls.{both}
+use Rattle.iir.specs.declared.Filter.{Filter}
+use Rattle.primes.specs.Table.{delayAt}
+use Rattle.primes.proofs.Table.{delay-range}
+use Rattle.unit.specs.Model.{Model, wall}
+use Rattle.unit.specs.Sizes.{lengthsFrom, lineLengths, total, storeLen, workLen}
+use Rattle.unit.specs.Range.{below, linesOk, passesOk}
+use Rattle.unit.specs.Judges.{roomOk}
+use Rattle.frame.specs.Frame.{Frame, frameFrom, frameIn}
+use Rattle.frame.specs.Settle.{allMoved, settledIn}
+use Rattle.lines.specs.Work.{Rings, Within, WholeFits, frameBy}
+use Rattle.lines.specs.Steps.{judgedStore, steppedStore}
+
+-- what all pass, the element at i passes, and so does what stands past the end where it passes
+all-or : {A : Type 0} (p : ℕ → A → Bool) (xs : List A) (k i : ℕ) (d : A) → allFrom p k xs ≡ true → p (k + i) d ≡ true → p (k + i) (getD xs i d) ≡ true
+all-or p [] k i d e h = h
+all-or p (x ∷ xs) k zero d e h = rw add-zero (split-and (p k x) (allFrom p (suc k) xs) e .0)
+all-or p (x ∷ xs) k (suc i) d e h =
+    let q : k + suc i ≡ suc k + i = add-suc k i ∙ sym (suc-add k i) in
+    rw q (all-or p xs (suc k) i d (split-and (p k x) (allFrom p (suc k) xs) e .1) (rw q at h))
+
+-- both cursors are below a length
+pub record Below (l : ℕ) (c : Cursors) : Type 0 where
+  pub read : c .read .0 < l
+  pub write : c .write .0 < l
+
+below-of : (l : ℕ) (c : Cursors) → below l c ≡ true → Below l c
+unfolding below
+below-of l c e = let p = split-and _ _ e in record { read = ltb-true _ _ (p .0); write = ltb-true _ _ (p .1) }
+
+below-start : (l : ℕ) → 0 < l → below l (both 0) ≡ true
+unfolding below
+below-start l h = rw (lt-ltb 0 l)
+
+module _ (ls : ℕ → ℕ) (cs : List Cursors) (all : allFrom (λ i c. below (ls i) c) 0 cs ≡ true) where
+  pub cursors-at : (i : ℕ) → 0 < ls i → Below (ls i) (getD cs i (both 0))
+  cursors-at i h =
+      below-of _ _ (rw zero-add at (all-or (λ i c. below (ls i) c) cs 0 i (both 0) all (rw zero-add (below-start (ls i) h))))
+
+-- the length of line i
+length-at : (m : Model) (f n j i : ℕ) → i < n → getD (lengthsFrom m f n j) i 0 ≡ m .delay (j + i) + f
+unfolding lengthsFrom
+length-at m f zero j i h = absurd (not-suc-le-zero h)
+length-at m f (suc n) j zero h = rw add-zero refl
+length-at m f (suc n) j (suc i) h =
+    let e : j + suc i ≡ j + 1 + i = omega arith in
+    rw e (length-at m f n (j + 1) i (omega arith))
+
+pub lengths-long : (m : Model) (f n j : ℕ) → length (lengthsFrom m f n j) ≡ n
+unfolding lengthsFrom
+lengths-long m f zero j = refl
+lengths-long m f (suc n) j = ap suc (lengths-long m f n (j + 1))
+
+-- sixteen lines are all that the wall unit has
+pub every-line : (f : ℕ) → take 16 (lineLengths wall f) ≡ lineLengths wall f
+every-line f = take-all 16 (lineLengths wall f) (omega (arith, lengths-long wall f 16 0))
+
+module _ (m : Model) (f : ℕ) (cs : List Cursors) (some : 0 < f) (short : f ≤ 1024) (near : (i : ℕ) → m .delay i ≤ 556) (all : linesOk m f cs ≡ true) where
+  line-at : (i : ℕ) → Below (m .delay i + f) (getD cs i (both 0))
+  unfolding linesOk
+  line-at i = cursors-at (λ i. m .delay i + f) cs all i (omega arith)
+
+  at-length : (i : ℕ) → i < m .lines → getD (lineLengths m f) i 0 ≡ m .delay i + f
+  at-length i h = length-at m f (m .lines) 0 i h ∙ ap (λ (k : ℕ). m .delay k + f) (zero-add i)
+
+  pub lines-within : (n i : ℕ) → i + n ≡ m .lines → Within n i (lineLengths m f) cs
+  lines-within zero i e = tt
+  lines-within (suc n) i e =
+      let l = at-length i (omega arith) in
+      let b = line-at i in
+      rw l (omega (arith, near i), b .read, b .write, lines-within n (i + 1) (omega arith))
+
+  pub rings-of : (n i a len : ℕ) → i + n ≡ m .lines → a + total (lengthsFrom m f n i) ≤ len → Rings f n i a (lineLengths m f) cs len
+  unfolding lengthsFrom total
+  rings-of zero i a len e h = tt
+  rings-of (suc n) i a len e h =
+      let l = at-length i (omega arith) in
+      let b = line-at i in
+      let k : a + (m .delay i + f + total (lengthsFrom m f n (i + 1))) ≤ len = h in
+      rw l (omega arith, omega (arith, near i), b .read, b .write, omega arith, rings-of n (i + 1) (a + (m .delay i + f)) len (omega arith) (omega arith))
+
+passes-within : (cs : List Cursors) → passesOk wall cs ≡ true → Within 4 0 (wall .passes) cs
+unfolding passesOk
+passes-within cs e =
+    let b : (i : ℕ) → 0 < getD (wall .passes) i 0 → Below (getD (wall .passes) i 0) (getD cs i (both 0)) = cursors-at (λ i. getD (wall .passes) i 0) cs e in
+    let b0 = b 0 (omega arith) in
+    let b1 = b 1 (omega arith) in
+    let b2 = b 2 (omega arith) in
+    let b3 = b 3 (omega arith) in
+    (omega arith, b0 .read, b0 .write, (omega arith, b1 .read, b1 .write, (omega arith, b2 .read, b2 .write, (omega arith, b3 .read, b3 .write, tt))))
+
+-- ---- the sizes by their parts
+
+store-holds : (f store : ℕ) → store ≡ storeLen wall f → 0 + total (lengthsFrom wall f 16 0) ≤ store
+unfolding storeLen
+store-holds f store e = omega arith
+
+passes-small : total (wall .passes) ≤ 65536
+unfolding total
+passes-small = omega arith
+
+store-parts : (f store : ℕ) → store ≡ storeLen wall f → total (take 16 (lineLengths wall f)) ≡ total (lineLengths wall f)
+    → store ≡ total (take 16 (lineLengths wall f)) + total (wall .passes)
+unfolding storeLen
+store-parts f store e q = e ∙ ap (λ (k : ℕ). k + total (wall .passes)) (sym q)
+
+work-parts : (f work : ℕ) → work ≡ workLen wall f → work ≡ f + 16 * f + 16 * f + f + total (wall .passes)
+unfolding workLen
+work-parts f work e = omega arith
+
+pub room-fits : (f : ℕ) (cs qs : List Cursors) (store work output : ℕ) → roomOk wall f cs qs store work output ≡ true
+    → WholeFits wall f cs qs store work output
+unfolding roomOk
+room-fits f cs qs store work output e =
+    let lent = eqb store (storeLen wall f) && (eqb work (workLen wall f) && eqb output f) in
+    let p = split-and (frameOk f) _ e in
+    let q = split-and (linesOk wall f cs && passesOk wall qs) lent (p .1) in
+    let c = split-and (linesOk wall f cs) (passesOk wall qs) (q .0) in
+    let l = split-and (eqb store (storeLen wall f)) _ (q .1) in
+    let g = split-and (eqb work (workLen wall f)) (eqb output f) (l .1) in
+    let es : store ≡ storeLen wall f = eqb-true _ _ (l .0) in
+    let ew : work ≡ workLen wall f = eqb-true _ _ (g .0) in
+    let d = frame-of f (p .0) in
+    let some : 0 < f = omega (arith, d .lo) in
+    let short = d .hi in
+    let near : (i : ℕ) → delayAt i ≤ 556 = (λ i. delay-range i .1) in
+    record {
+      fits = record {
+        few = omega arith;
+        some = omega arith;
+        frame = some;
+        small = omega (arith, short);
+        fours = d .fours;
+        rings = rings-of wall f cs some short near (c .0) 16 0 0 store refl (store-holds f store es);
+        passes = passes-small;
+        four = refl;
+        store-is = store-parts f store es (ap total (every-line f));
+        work-is = work-parts f work ew;
+      };
+      lines = lines-within wall f cs some short near (c .0) 16 0 refl;
+      passes = passes-within qs (c .1);
+      short = short;
+      out = eqb-true _ _ (g .1);
+    }
+
+-- the frame of sixteen lines, the wall unit's factor and its divisor is the wall unit's
+pub frame-wall : (f : ℕ) (tail : Bool) (ls : List ℕ) (cs qs : List Cursors) (fs : List Filter) (input store : List Float) → ls ≡ lineLengths wall f
+    → frameBy 16 f (wall .factor) (wall .divisor) tail ls cs (wall .passes) qs fs input store ≡ frameIn wall f tail cs qs fs input store
+unfolding frameFrom
+frame-wall f tail ls cs qs fs input store e = rw (e, every-line f) refl
+
+module _ (f : ℕ) (ls : List ℕ) (cs : List Cursors) (r r′ : Frame) (e : ls ≡ lineLengths wall f) (q : r ≡ r′) where
+  pub store-wall : (store : List Float) → judgedStore 16 f ls cs r store ≡ steppedStore wall f cs true r′ store
+  unfolding judgedStore steppedStore settledIn
+  store-wall store = rw (e, q) refl
+
+pub lines-wall : (f : ℕ) (ls : List ℕ) (cs ds : List Cursors) → ls ≡ lineLengths wall f → ds ≡ allMoved f (take 16 ls) cs → ds ≡ allMoved f (lineLengths wall f) cs
+lines-wall f ls cs ds e q = q ∙ ap (λ (l : List ℕ). allMoved f l cs) (ap (take 16) e ∙ every-line f)

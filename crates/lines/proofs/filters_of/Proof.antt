@@ -1,0 +1,28 @@
+-- `lines::filters_of` meets its contract. Assumes nothing.
+use borrow.Author.Needs.{needs}
+use borrow.Author.Tests.{ne-eqb, eq-eqb}
+use mathlib.Core.Path.{ap}
+use lib.ListN.{replicate}
+use Rattle.lines.proofs.filters_of.Statement.{statement}
+use Rattle.lines.proofs.filters_of.Tie as tie
+
+new-from-coefficients-requires : tie.Need-new-from-coefficients-requires
+new-from-coefficients-requires c κs = search needs
+
+returns : tie.Need-returns
+returns c =
+    let h = c .before .if1 .taken in
+    let e = c .new-from-coefficients .ensures in
+    rw (ne-eqb _ 255 h) (ap (replicate 51) e)
+
+filters-from-requires : tie.Need-filters-from-requires
+filters-from-requires c κs = search needs
+
+returns-2 : tie.Need-returns-2
+returns-2 c =
+    let h = c .before .if1 .left in
+    rw (eq-eqb _ 255 h) (c .filters-from .ensures)
+
+pub filters-of-spec : {M : Type 1} → statement M
+filters-of-spec =
+    tie.close (tie.spec new-from-coefficients-requires returns filters-from-requires returns-2)

@@ -1,0 +1,141 @@
+-- `lines::steps::filters_from` meets its contract. The invariant: the filters so far, then those of the coefficients left, are the answer.
+-- Assumes nothing.
+use borrow.Author.Needs.{needs}
+use native.Mathlib.Omega.{arith}
+use mathlib.Core.Path.{_≡_, refl, _∙_}
+use mathlib.Core.List.{_++_}
+use Prim.Native.Nat.{_*_, _≤_, _-_}
+use lib.ListN.{length, take, drop, length-set}
+use denote.Ref.{now}
+use Rattle.samples.proofs.Turns.{all-done}
+use Rattle.frame.specs.Lines.{filtersOf}
+use Rattle.lines.proofs.LineFills.{filters-turn}
+use Rattle.lines.proofs.steps.filters_from.Statement.{statement}
+use Rattle.lines.proofs.steps.filters_from.Tie as tie
+
+abbrev Inv-loop : tie.InvT-loop
+Inv-loop coefficients fs₀ k₀ i₀ fs k i =
+    (i ≤ 51) × (k ≡ 5 * i) × (length fs ≡ 51) × (take i fs ++ filtersOf (51 - i) (drop k coefficients) ≡ filtersOf 51 coefficients)
+
+abbrev μ-loop : tie.MeasureT-loop
+μ-loop coefficients fs₀ k₀ i₀ fs k i = 51 - i
+
+new-from-coefficients-requires : tie.Need-new-from-coefficients-requires Inv-loop μ-loop
+new-from-coefficients-requires c κs = search needs
+
+loop-holds : tie.Need-loop-holds Inv-loop μ-loop
+loop-holds c = (search needs, refl, search needs, refl)
+
+mul-new-from-coefficients : tie.Need-mul-new-from-coefficients Inv-loop μ-loop
+mul-new-from-coefficients c = search needs
+
+shared-slice-read-new-from-coefficients :
+    tie.Need-shared-slice-read-new-from-coefficients Inv-loop μ-loop
+shared-slice-read-new-from-coefficients c = search needs
+
+add-new-from-coefficients : tie.Need-add-new-from-coefficients Inv-loop μ-loop
+add-new-from-coefficients c = search needs
+
+mul-new-from-coefficients-2 : tie.Need-mul-new-from-coefficients-2 Inv-loop μ-loop
+mul-new-from-coefficients-2 c = search needs
+
+shared-slice-read-new-from-coefficients-2 :
+    tie.Need-shared-slice-read-new-from-coefficients-2 Inv-loop μ-loop
+shared-slice-read-new-from-coefficients-2 c = search needs
+
+add-new-from-coefficients-2 : tie.Need-add-new-from-coefficients-2 Inv-loop μ-loop
+add-new-from-coefficients-2 c = search needs
+
+mul-new-from-coefficients-3 : tie.Need-mul-new-from-coefficients-3 Inv-loop μ-loop
+mul-new-from-coefficients-3 c = search needs
+
+shared-slice-read-new-from-coefficients-3 :
+    tie.Need-shared-slice-read-new-from-coefficients-3 Inv-loop μ-loop
+shared-slice-read-new-from-coefficients-3 c = search needs
+
+add-new-from-coefficients-3 : tie.Need-add-new-from-coefficients-3 Inv-loop μ-loop
+add-new-from-coefficients-3 c = search needs
+
+mul-new-from-coefficients-4 : tie.Need-mul-new-from-coefficients-4 Inv-loop μ-loop
+mul-new-from-coefficients-4 c = search needs
+
+shared-slice-read-new-from-coefficients-4 :
+    tie.Need-shared-slice-read-new-from-coefficients-4 Inv-loop μ-loop
+shared-slice-read-new-from-coefficients-4 c = search needs
+
+add-new-from-coefficients-4 : tie.Need-add-new-from-coefficients-4 Inv-loop μ-loop
+add-new-from-coefficients-4 c = search needs
+
+mul-new-from-coefficients-5 : tie.Need-mul-new-from-coefficients-5 Inv-loop μ-loop
+mul-new-from-coefficients-5 c = search needs
+
+shared-slice-read-new-from-coefficients-5 :
+    tie.Need-shared-slice-read-new-from-coefficients-5 Inv-loop μ-loop
+shared-slice-read-new-from-coefficients-5 c = search needs
+
+new-from-coefficients-requires-2 : tie.Need-new-from-coefficients-requires-2 Inv-loop μ-loop
+new-from-coefficients-requires-2 c κs = search needs
+
+mul-fs : tie.Need-mul-fs Inv-loop μ-loop
+mul-fs c = search needs
+
+array-set-from-fs : tie.Need-array-set-from-fs Inv-loop μ-loop
+array-set-from-fs c = search needs
+
+add-k : tie.Need-add-k Inv-loop μ-loop
+add-k c = search needs
+
+add-i : tie.Need-add-i Inv-loop μ-loop
+add-i c = search needs
+
+loop-less : tie.Need-loop-less Inv-loop μ-loop
+loop-less c = search needs
+
+loop-again : tie.Need-loop-again Inv-loop μ-loop
+loop-again c =
+    let turn = c .before .before .before .before .before .before in
+    let l = turn .before .loop in
+    let cs = now (turn .before .before .before .before .args .coefficients) in (
+      omega arith,
+      omega (arith, l .inv .1),
+      simp length-set (l .inv .2),
+      filters-turn 51 (l .i) (l .k) cs (l .fs) _ _ (turn .loop-test .taken) (omega (arith, l .inv .2)) (c .new-from-coefficients2 .ensures) (l .inv .3),
+    )
+
+returns : tie.Need-returns Inv-loop μ-loop
+unfolding filtersOf
+returns c =
+    let l = c .before .loop in
+    let z : 51 - l .i ≡ 0 = omega arith in
+    all-done (l .fs) (l .i) (omega (arith, l .inv .2)) ∙ rw z at (l .inv .3)
+
+pub filters-from-spec : {M : Type 1} → statement M
+filters-from-spec =
+    tie.close
+    (tie.spec
+    Inv-loop
+    μ-loop
+    new-from-coefficients-requires
+    loop-holds
+    mul-new-from-coefficients
+    shared-slice-read-new-from-coefficients
+    add-new-from-coefficients
+    mul-new-from-coefficients-2
+    shared-slice-read-new-from-coefficients-2
+    add-new-from-coefficients-2
+    mul-new-from-coefficients-3
+    shared-slice-read-new-from-coefficients-3
+    add-new-from-coefficients-3
+    mul-new-from-coefficients-4
+    shared-slice-read-new-from-coefficients-4
+    add-new-from-coefficients-4
+    mul-new-from-coefficients-5
+    shared-slice-read-new-from-coefficients-5
+    new-from-coefficients-requires-2
+    mul-fs
+    array-set-from-fs
+    add-k
+    add-i
+    loop-less
+    loop-again
+    returns)

@@ -1,0 +1,75 @@
+-- `lines::steps::line_lengths` meets its contract. The invariant: the lengths so far, then those left, are the answer. Assumes nothing.
+use borrow.Author.Needs.{needs}
+use native.Mathlib.Omega.{arith}
+use mathlib.Core.Path.{_≡_, refl, ap, _∙_}
+use mathlib.Core.List.{_++_}
+use Prim.Native.Nat.{ℕ, _+_, _≤_, _-_}
+use lib.ListN.{length, take, length-set}
+use Rattle.samples.proofs.Turns.{all-done}
+use Rattle.unit.specs.Model.{wall}
+use Rattle.unit.specs.Sizes.{lengthsFrom}
+use Rattle.lines.proofs.LineFills.{lengths-turn, line-small}
+use Rattle.lines.proofs.steps.line_lengths.Statement.{statement}
+use Rattle.lines.proofs.steps.line_lengths.Tie as tie
+
+abbrev Inv-loop : tie.InvT-loop
+Inv-loop frame ls₀ i₀ ls i = (i ≤ 16) × (length ls ≡ 16) × (take i ls ++ lengthsFrom wall frame (16 - i) i ≡ lengthsFrom wall frame 16 0)
+
+abbrev μ-loop : tie.MeasureT-loop
+μ-loop frame ls₀ i₀ ls i = 16 - i
+
+loop-holds : tie.Need-loop-holds Inv-loop μ-loop
+loop-holds c = (search needs, search needs, refl)
+
+delay-requires : tie.Need-delay-requires Inv-loop μ-loop
+delay-requires c κs = search needs
+
+add-ls : tie.Need-add-ls Inv-loop μ-loop
+add-ls c =
+    let l = c .before .before .loop in
+    let s = c .before .before .before in
+    omega (arith, line-small (s .args .frame) (l .i) (search needs), c .delay .ensures, s .pre)
+
+mul-ls : tie.Need-mul-ls Inv-loop μ-loop
+mul-ls c = search needs
+
+array-write-ls : tie.Need-array-write-ls Inv-loop μ-loop
+array-write-ls c = search needs
+
+add-i : tie.Need-add-i Inv-loop μ-loop
+add-i c = search needs
+
+loop-less : tie.Need-loop-less Inv-loop μ-loop
+loop-less c = search needs
+
+loop-again : tie.Need-loop-again Inv-loop μ-loop
+loop-again c =
+    let l = c .before .before .loop in
+    let f = c .before .before .before .args .frame in (
+      omega arith,
+      simp length-set (l .inv .1),
+      lengths-turn wall f 16 (l .i) _ (l .ls) _ (c .before .loop-test .taken) (omega arith) (ap (λ (d : ℕ). d + f) (c .delay .ensures)) (l .inv .2),
+    )
+
+returns : tie.Need-returns Inv-loop μ-loop
+unfolding lengthsFrom
+returns c =
+    let l = c .before .loop in
+    let z : 16 - l .i ≡ 0 = omega arith in
+    all-done (l .ls) (l .i) (omega arith) ∙ rw z at (l .inv .2)
+
+pub line-lengths-spec : {M : Type 1} → statement M
+line-lengths-spec =
+    tie.close
+    (tie.spec
+    Inv-loop
+    μ-loop
+    loop-holds
+    delay-requires
+    add-ls
+    mul-ls
+    array-write-ls
+    add-i
+    loop-less
+    loop-again
+    returns)

@@ -1,0 +1,84 @@
+-- `lines::steps::move_lines` meets its contract. The invariant: the cursors moved so far, then those left moved, are the answer.
+-- Assumes nothing.
+use borrow.Author.Needs.{needs}
+use mathlib.Core.Path.{refl}
+use Prim.Native.Nat.{_-_}
+use native.Mathlib.Nat.{sub-zero}
+use lib.ListN.{take}
+use Rattle.frame.specs.Settle.{allMoved}
+use Rattle.lines.proofs.LineFills.{Moving, ring-here, move-turn, move-done}
+use Rattle.lines.proofs.steps.move_lines.Statement.{statement}
+use Rattle.lines.proofs.steps.move_lines.Tie as tie
+
+abbrev Inv-loop : tie.InvT-loop
+Inv-loop n f ls cs ds₀ i₀ ds i = Moving n f ls cs (allMoved f (take n ls) cs) i ds
+
+abbrev μ-loop : tie.MeasureT-loop
+μ-loop n f ls cs ds₀ i₀ ds i = n - i
+
+loop-holds : tie.Need-loop-holds Inv-loop μ-loop
+loop-holds c = let z = sub-zero (c .args .n) in (search needs, refl, rw z (c .pre .2), refl, rw z refl)
+
+mul-c : tie.Need-mul-c Inv-loop μ-loop
+mul-c c = search needs
+
+array-copy-out-c : tie.Need-array-copy-out-c Inv-loop μ-loop
+array-copy-out-c c = search needs
+
+mul-moved : tie.Need-mul-moved Inv-loop μ-loop
+mul-moved c = search needs
+
+array-read-moved : tie.Need-array-read-moved Inv-loop μ-loop
+array-read-moved c = search needs
+
+moved-requires : tie.Need-moved-requires Inv-loop μ-loop
+moved-requires c κs =
+    let l = c .before .before .loop in
+    let s = c .before .before .before in
+    let r = ring-here (s .args .n) (s .args .f) (s .args .t3) (s .args .t4) _ (l .i) (l .ds) (l .inv) (c .before .loop-test .taken) in
+    (s .pre .1, r .0, r .1, r .2)
+
+mul-ds : tie.Need-mul-ds Inv-loop μ-loop
+mul-ds c = search needs
+
+array-set-from-ds : tie.Need-array-set-from-ds Inv-loop μ-loop
+array-set-from-ds c = search needs
+
+add-i : tie.Need-add-i Inv-loop μ-loop
+add-i c = search needs
+
+loop-less : tie.Need-loop-less Inv-loop μ-loop
+loop-less c = search needs
+
+loop-again : tie.Need-loop-again Inv-loop μ-loop
+loop-again c =
+    let turn = c .before .before in
+    let l = turn .before .loop in
+    let s = turn .before .before in
+    move-turn (s .args .n) (s .args .f) (s .args .t3) (s .args .t4) _ (l .i) (l .ds) (l .inv) _ (turn .loop-test .taken) (search needs) (search needs)
+    (c .moved .ensures)
+
+returns : tie.Need-returns Inv-loop μ-loop
+returns c =
+    let l = c .before .loop in
+    let s = c .before .before in
+    move-done (s .args .n) (s .args .f) (s .args .t3) (s .args .t4) _ (l .i) (l .ds) (l .inv) (c .loop-test .left)
+
+pub move-lines-spec : {M : Type 1} → statement M
+move-lines-spec =
+    tie.close
+    (tie.spec
+    Inv-loop
+    μ-loop
+    loop-holds
+    mul-c
+    array-copy-out-c
+    mul-moved
+    array-read-moved
+    moved-requires
+    mul-ds
+    array-set-from-ds
+    add-i
+    loop-less
+    loop-again
+    returns)

@@ -1,0 +1,82 @@
+-- `lines::steps::move_passes` meets its contract. The invariant: as of the lines. Assumes nothing.
+use borrow.Author.Needs.{needs}
+use mathlib.Core.Path.{refl, ap}
+use mathlib.Core.List.{List}
+use Prim.Native.Nat.{ℕ, _-_}
+use lib.Seq.{take-all}
+use Rattle.frame.specs.Settle.{allMoved}
+use Rattle.lines.proofs.LineFills.{Moving, ring-here, move-turn, move-done}
+use Rattle.lines.proofs.steps.move_passes.Statement.{statement}
+use Rattle.lines.proofs.steps.move_passes.Tie as tie
+
+abbrev Inv-loop : tie.InvT-loop
+Inv-loop f ls cs ds₀ i₀ ds i = Moving 4 f ls cs (allMoved f ls cs) i ds
+
+abbrev μ-loop : tie.MeasureT-loop
+μ-loop f ls cs ds₀ i₀ ds i = 4 - i
+
+loop-holds : tie.Need-loop-holds Inv-loop μ-loop
+loop-holds c = (search needs, refl, c .pre .1, refl, ap (λ (l : List ℕ). allMoved (c .args .f) l (c .args .t3)) (take-all 4 (c .args .t2) (search needs)))
+
+mul-c : tie.Need-mul-c Inv-loop μ-loop
+mul-c c = search needs
+
+array-copy-out-c : tie.Need-array-copy-out-c Inv-loop μ-loop
+array-copy-out-c c = search needs
+
+mul-moved : tie.Need-mul-moved Inv-loop μ-loop
+mul-moved c = search needs
+
+array-read-moved : tie.Need-array-read-moved Inv-loop μ-loop
+array-read-moved c = search needs
+
+moved-requires : tie.Need-moved-requires Inv-loop μ-loop
+moved-requires c κs =
+    let l = c .before .before .loop in
+    let s = c .before .before .before in
+    let r = ring-here 4 (s .args .f) (s .args .t2) (s .args .t3) _ (l .i) (l .ds) (l .inv) (c .before .loop-test .taken) in
+    (s .pre .0, r .0, r .1, r .2)
+
+mul-ds : tie.Need-mul-ds Inv-loop μ-loop
+mul-ds c = search needs
+
+array-set-from-ds : tie.Need-array-set-from-ds Inv-loop μ-loop
+array-set-from-ds c = search needs
+
+add-i : tie.Need-add-i Inv-loop μ-loop
+add-i c = search needs
+
+loop-less : tie.Need-loop-less Inv-loop μ-loop
+loop-less c = search needs
+
+loop-again : tie.Need-loop-again Inv-loop μ-loop
+loop-again c =
+    let turn = c .before .before in
+    let l = turn .before .loop in
+    let s = turn .before .before in
+    move-turn 4 (s .args .f) (s .args .t2) (s .args .t3) _ (l .i) (l .ds) (l .inv) _ (turn .loop-test .taken) (search needs) (search needs) (c .moved .ensures)
+
+returns : tie.Need-returns Inv-loop μ-loop
+returns c =
+    let l = c .before .loop in
+    let s = c .before .before in
+    move-done 4 (s .args .f) (s .args .t2) (s .args .t3) _ (l .i) (l .ds) (l .inv) (c .loop-test .left)
+
+pub move-passes-spec : {M : Type 1} → statement M
+move-passes-spec =
+    tie.close
+    (tie.spec
+    Inv-loop
+    μ-loop
+    loop-holds
+    mul-c
+    array-copy-out-c
+    mul-moved
+    array-read-moved
+    moved-requires
+    mul-ds
+    array-set-from-ds
+    add-i
+    loop-less
+    loop-again
+    returns)

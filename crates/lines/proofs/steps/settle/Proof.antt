@@ -1,0 +1,28 @@
+-- `lines::steps::settle` meets its contract. Assumes nothing.
+use borrow.Author.Needs.{needs}
+use mathlib.Core.Path.{_∙_}
+use denote.Ref.{now}
+use Rattle.lines.proofs.LineTurns.{settle-join}
+use Rattle.lines.proofs.steps.settle.Statement.{statement}
+use Rattle.lines.proofs.steps.settle.Tie as tie
+
+put-lines-requires : tie.Need-put-lines-requires
+put-lines-requires c κs = search needs
+
+put-rings-requires : tie.Need-put-rings-requires
+put-rings-requires c κs = search needs
+
+same-length : tie.Need-same-length
+same-length c = search needs
+
+returns : tie.Need-returns
+returns c =
+    let called = c .before .before in
+    let s = called .before .before .before .before .before .before .before .before .before in
+    let a = s .args in
+    called .put-rings .ensures
+    ∙ settle-join (a .n) (a .f) (a .ls) (a .cs) (now (a .rows)) (now (a .rings)) (now (a .store)) _ (s .pre .0 .rings) (s .pre .1)
+    (called .before .before .before .before .put-lines .ensures)
+
+pub settle-spec : {M : Type 1} → statement M
+settle-spec = tie.close (tie.spec put-lines-requires put-rings-requires same-length returns)

@@ -1,0 +1,31 @@
+-- `lines::whole::settle_if` meets its contract. Assumes nothing.
+use borrow.Author.Needs.{needs}
+use mathlib.Core.Path.{refl}
+use borrow.Author.Tests.{not-true, not-false}
+use Rattle.lines.proofs.whole.settle_if.Statement.{statement}
+use Rattle.lines.proofs.whole.settle_if.Tie as tie
+
+returns : tie.Need-returns
+returns c =
+    let e = not-true (c .before .before .before .before .args .ok) (c .if1 .taken) in
+    (rw e refl, rw e refl)
+
+settle-frame-requires : tie.Need-settle-frame-requires
+settle-frame-requires c κs = search needs
+
+same-length : tie.Need-same-length
+same-length c = search needs
+
+same-length-2 : tie.Need-same-length-2
+same-length-2 c = search needs
+
+returns-2 : tie.Need-returns-2
+returns-2 c =
+    let called = c .before .before .before .before in
+    let tested = called .before .before .before in
+    let e = not-false (tested .before .before .before .before .args .ok) (tested .if1 .left) in
+    (rw e (called .settle-frame .ensures .0), rw e (called .settle-frame .ensures .1))
+
+pub settle-if-spec : {M : Type 1} → statement M
+settle-if-spec =
+    tie.close (tie.spec returns settle-frame-requires same-length same-length-2 returns-2)

@@ -1,0 +1,107 @@
+// A whole frame in the work memory, judged, and settled into the store and the output where all of it
+// is finite.
+use crate::rows::frame_rows;
+use crate::steps::settle;
+use delay::Cursors;
+use iir::Filter;
+use samples::all_finite;
+use samples::and;
+use samples::clear;
+ghost use mathlib.Core.Path.{_≡_};
+ghost use mathlib.Core.Bool.{_&&_, cond};
+ghost use Prim.Native.Nat.{_+_, _*_, _≤_};
+ghost use lib.ListN.{length, take, drop, replicate};
+ghost use Rattle.samples.specs.Binary32.{+0};
+ghost use Rattle.samples.specs.Search.{allFinite};
+ghost use Rattle.frame.specs.Settle.{filtersFinite, putRows};
+ghost use Rattle.lines.specs.Work.{SettleFits, FrameFits, frameBy};
+ghost use Rattle.lines.specs.Steps.{judgedOf, judgedStore, judgedOutput};
+
+// What a frame in the work memory came to: whether all of it is finite, and its filters.
+pub(crate) struct Judged {
+    pub(crate) ok: bool,
+    pub(crate) filters: [Filter; 51],
+}
+
+// Whether all that a frame would keep or hand out is finite: the filters, and the work memory from
+// the rows to put on.
+pub(crate) fn frame_finite(n: usize, f: usize, fs: [Filter; 51], work: &[f32]) -> bool
+    requires { ⌜ f + n * f ≤ length (now work) ⌝ }
+    ensures { λ r. ⌜ r ≡ (filtersFinite fs && allFinite (drop (f + n * f) (now (work .entry)))) ⌝ }
+{
+    let at = f + n * f;
+    and(frame::filters_finite(fs), all_finite(&work[at..], f))
+}
+
+// Puts the rows of a frame into the lines and its allpass rings after them, and hands its output out.
+pub(crate) fn settle_frame(
+    n: usize,
+    f: usize,
+    ls: [usize; 16],
+    cs: [Cursors; 16],
+    work: &[f32],
+    store: &mut [f32],
+    output: &mut [f32],
+)
+    requires { ⌜ SettleFits n f ls cs (length (now store)) (length (now work)) (length (now output)) ⌝ }
+    ensures { λ _. ⌜ now (store .exit) ≡ putRows f n 0 ls cs (take (n * f) (drop (f + n * f) (now (work .entry)))) (drop (f + n * f + n * f + f) (now (work .entry))) (now (store .entry)) ⌝ }
+    ensures { λ _. ⌜ now (output .exit) ≡ take f (drop (f + n * f + n * f) (now (work .entry))) ⌝ }
+{
+    let a = f + n * f;
+    let p = a + n * f;
+    let e = p + f;
+    settle(n, f, ls, cs, &work[a..p], &work[e..], store);
+    frame::copy(&work[p..e], output);
+}
+
+// The same if `ok`, and else nothing.
+pub(crate) fn settle_if(
+    ok: bool,
+    n: usize,
+    f: usize,
+    ls: [usize; 16],
+    cs: [Cursors; 16],
+    work: &[f32],
+    store: &mut [f32],
+    output: &mut [f32],
+)
+    requires { ⌜ SettleFits n f ls cs (length (now store)) (length (now work)) (length (now output)) ⌝ }
+    ensures { λ _. ⌜ now (store .exit) ≡ cond ok (putRows f n 0 ls cs (take (n * f) (drop (f + n * f) (now (work .entry)))) (drop (f + n * f + n * f + f) (now (work .entry))) (now (store .entry))) (now (store .entry)) ⌝ }
+    ensures { λ _. ⌜ now (output .exit) ≡ cond ok (take f (drop (f + n * f + n * f) (now (work .entry)))) (now (output .entry)) ⌝ }
+{
+    if !ok {
+        return;
+    }
+    settle_frame(n, f, ls, cs, work, store, output);
+}
+
+// A frame in the work memory, which begins with the input; where all of it is finite, in the store
+// and the output too. The work memory is cleared.
+pub(crate) fn judge_frame(
+    n: usize,
+    f: usize,
+    factor: f32,
+    divisor: f32,
+    tail: bool,
+    ls: [usize; 16],
+    cs: [Cursors; 16],
+    ps: [usize; 4],
+    qs: [Cursors; 4],
+    fs: [Filter; 51],
+    store: &mut [f32],
+    work: &mut [f32],
+    output: &mut [f32],
+) -> Judged
+    requires { ⌜ FrameFits n f ls cs ps (length (now store)) (length (now work)) ⌝ }
+    requires { ⌜ (length (now output) ≡ f) × (3 * n + 3 ≡ 51) ⌝ }
+    ensures { λ r. ⌜ r ≡ judgedOf (frameBy n f factor divisor tail ls cs ps qs fs (take f (now (work .entry))) (now (store .entry))) ⌝ }
+    ensures { λ _. ⌜ now (store .exit) ≡ judgedStore n f ls cs (frameBy n f factor divisor tail ls cs ps qs fs (take f (now (work .entry))) (now (store .entry))) (now (store .entry)) ⌝ }
+    ensures { λ _. ⌜ now (work .exit) ≡ replicate (length (now (work .entry))) +0 ⌝ }
+    ensures { λ _. ⌜ now (output .exit) ≡ judgedOutput (frameBy n f factor divisor tail ls cs ps qs fs (take f (now (work .entry))) (now (store .entry))) (now (output .entry)) ⌝ }
+{
+    let gs = frame_rows(n, f, factor, divisor, tail, ls, cs, ps, qs, fs, store, work);
+    let ok = frame_finite(n, f, gs, work);
+    settle_if(ok, n, f, ls, cs, work, store, output);
+    clear(work);
+    Judged { ok, filters: gs }
+}
