@@ -99,7 +99,7 @@ pub fn judge_apply(
 
 // Whether the store, the work memory and the output have the lengths that frames of `frame` samples
 // ask.
-fn lent_ok(frame: usize, store: usize, work: usize, output: usize) -> bool
+pub fn lent_ok(frame: usize, store: usize, work: usize, output: usize) -> bool
     ensures { λ r. ⌜ r ≡ (eqb store (storeLen wall frame) && (eqb work (workLen wall frame) && eqb output frame)) ⌝ }
 {
     and(
@@ -155,7 +155,7 @@ fn bad_input(f: Found) -> Answer
 }
 
 // A refusal, or what a later judgement says.
-fn or_else(a: Answer, b: Answer) -> Answer
+pub fn or_else(a: Answer, b: Answer) -> Answer
     ensures { λ r. ⌜ r ≡ orElse a b ⌝ }
 {
     if is_accepted(a) { b } else { a }

@@ -12,6 +12,8 @@ pub use judges::judge_fresh;
 pub use judges::judge_given;
 pub use judges::judge_reset;
 pub use judges::judge_tail;
+pub use judges::lent_ok;
+pub use judges::or_else;
 pub use judges::room_ok;
 pub use range::in_range;
 pub use sizes::PASSES;

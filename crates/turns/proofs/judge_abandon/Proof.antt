@@ -1,0 +1,28 @@
+-- `turns::judge_abandon` meets its contract. Assumes nothing.
+use borrow.Author.Needs.{needs}
+use mathlib.Core.Path.{ap, _∙_}
+use mathlib.Core.Bool.{Bool, true}
+use Rattle.unit.specs.Hall.{ofState}
+use Rattle.unit.specs.Model.{wall}
+use Rattle.unit.specs.Judges.{judged}
+use Rattle.turns.proofs.judge_abandon.Statement.{statement}
+use Rattle.turns.proofs.judge_abandon.Tie as tie
+
+work-ok-requires : tie.Need-work-ok-requires
+work-ok-requires c κs = search needs
+
+judge-requires : tie.Need-judge-requires
+judge-requires c κs = search needs
+
+returns : tie.Need-returns
+returns c =
+    let s = c .before .before .args .s in
+    c .judge .ensures ∙ ap (λ (b : Bool). judged wall (ofState s) b true (s .busy)) (c .before .work-ok .ensures)
+
+pub judge-abandon-spec : {M : Type 1} → statement M
+judge-abandon-spec =
+    tie.close
+    (tie.spec
+    work-ok-requires
+    judge-requires
+    returns)

@@ -1,0 +1,40 @@
+-- `turns::judge_close` meets its contract. Assumes nothing.
+use borrow.Author.Needs.{needs}
+use mathlib.Core.Path.{_∙_}
+use mathlib.Core.Bool.{true, _&&_}
+use Rattle.unit.specs.Hall.{ofState}
+use Rattle.unit.specs.Model.{wall}
+use Rattle.unit.specs.Judges.{judged}
+use Rattle.turns.proofs.judge_close.Statement.{statement}
+use Rattle.turns.proofs.judge_close.Tie as tie
+
+lent-ok-requires : tie.Need-lent-ok-requires
+lent-ok-requires c κs = search needs
+
+all-done-requires : tie.Need-all-done-requires
+all-done-requires c κs = search needs
+
+and-requires : tie.Need-and-requires
+and-requires c κs = search needs
+
+judge-requires : tie.Need-judge-requires
+judge-requires c κs = search needs
+
+returns : tie.Need-returns
+returns c =
+    let both = c .before in
+    let done = both .before in
+    let lent = done .before in
+    let s = lent .before .before .args .s in
+    let turn = both .and .ensures ∙ (λ i. s .busy && done .all-done .ensures i) in
+    c .judge .ensures ∙ (λ i. judged wall (ofState s) (lent .lent-ok .ensures i) true (turn i))
+
+pub judge-close-spec : {M : Type 1} → statement M
+judge-close-spec =
+    tie.close
+    (tie.spec
+    lent-ok-requires
+    all-done-requires
+    and-requires
+    judge-requires
+    returns)

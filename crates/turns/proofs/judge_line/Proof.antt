@@ -1,0 +1,52 @@
+-- `turns::judge_line` meets its contract. Assumes nothing.
+use borrow.Author.Needs.{needs}
+use mathlib.Core.Path.{_∙_}
+use mathlib.Core.Bool.{not, _&&_}
+use lib.Dec.{ltb}
+use Rattle.unit.specs.Hall.{ofState}
+use Rattle.unit.specs.Model.{wall}
+use Rattle.unit.specs.Judges.{judged}
+use Rattle.turns.proofs.judge_line.Statement.{statement}
+use Rattle.turns.proofs.judge_line.Tie as tie
+
+marked-requires : tie.Need-marked-requires
+marked-requires c κs = search needs
+
+line-marked-requires : tie.Need-line-marked-requires
+line-marked-requires c κs = search needs
+
+and-requires : tie.Need-and-requires
+and-requires c κs = search needs
+
+work-ok-requires : tie.Need-work-ok-requires
+work-ok-requires c κs = search needs
+
+and-requires-2 : tie.Need-and-requires-2
+and-requires-2 c κs = search needs
+
+judge-requires : tie.Need-judge-requires
+judge-requires c κs = search needs
+
+returns : tie.Need-returns
+returns c =
+    let both = c .before in
+    let work = both .before in
+    let marks = work .before in
+    let line = marks .before in
+    let a = line .before .before .before .args in
+    let s = a .s in
+    let done = marks .and .ensures ∙ (λ i. line .before .marked .ensures i && not (line .line-marked .ensures i)) in
+    let turn = both .and2 .ensures ∙ (λ i. s .busy && done i) in
+    c .judge .ensures ∙ (λ i. judged wall (ofState s) (work .work-ok .ensures i) (ltb (a .line) 16) (turn i))
+
+pub judge-line-spec : {M : Type 1} → statement M
+judge-line-spec =
+    tie.close
+    (tie.spec
+    marked-requires
+    line-marked-requires
+    and-requires
+    work-ok-requires
+    and-requires-2
+    judge-requires
+    returns)

@@ -1,0 +1,62 @@
+-- `turns::judge_open_apply` meets its contract. Assumes nothing.
+use borrow.Author.Needs.{needs}
+use mathlib.Core.Path.{ap, _∙_}
+use mathlib.Core.Bool.{Bool, true, not, _&&_}
+use Rattle.samples.specs.Answers.{orElse}
+use Rattle.unit.specs.Hall.{ofState}
+use Rattle.unit.specs.Model.{wall}
+use Rattle.unit.specs.Judges.{judged}
+use Rattle.turns.proofs.judge_open_apply.Statement.{statement}
+use Rattle.turns.proofs.judge_open_apply.Tie as tie
+
+and-requires : tie.Need-and-requires
+and-requires c κs = search needs
+
+store-ok-requires : tie.Need-store-ok-requires
+store-ok-requires c κs = search needs
+
+work-ok-requires : tie.Need-work-ok-requires
+work-ok-requires c κs = search needs
+
+and-requires-2 : tie.Need-and-requires-2
+and-requires-2 c κs = search needs
+
+and-requires-3 : tie.Need-and-requires-3
+and-requires-3 c κs = search needs
+
+judge-requires : tie.Need-judge-requires
+judge-requires c κs = search needs
+
+judge-given-requires : tie.Need-judge-given-requires
+judge-given-requires c κs = search needs
+
+or-else-requires : tie.Need-or-else-requires
+or-else-requires c κs = search needs
+
+returns : tie.Need-returns
+returns c =
+    let given = c .before in
+    let judge = given .before in
+    let both = judge .before in
+    let lent = both .before in
+    let work = lent .before in
+    let store = work .before in
+    let s = store .before .before .before .before .args .s in
+    let rooms = lent .and2 .ensures ∙ (λ i. store .store-ok .ensures i && work .work-ok .ensures i) in
+    let lengths = both .and3 .ensures ∙ (λ i. store .before .and .ensures i && rooms i) in
+    let due = judge .judge .ensures ∙ ap (λ (b : Bool). judged wall (ofState s) b true (not (s .busy))) lengths in
+    c .or-else .ensures ∙ (λ i. orElse (due i) (given .judge-given .ensures i))
+
+pub judge-open-apply-spec : {M : Type 1} → statement M
+judge-open-apply-spec =
+    tie.close
+    (tie.spec
+    and-requires
+    store-ok-requires
+    work-ok-requires
+    and-requires-2
+    and-requires-3
+    judge-requires
+    judge-given-requires
+    or-else-requires
+    returns)

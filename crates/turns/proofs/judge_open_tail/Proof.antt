@@ -1,0 +1,39 @@
+-- `turns::judge_open_tail` meets its contract. Assumes nothing.
+use borrow.Author.Needs.{needs}
+use mathlib.Core.Path.{ap, _∙_}
+use mathlib.Core.Bool.{Bool, true, not, _&&_}
+use Rattle.unit.specs.Hall.{ofState}
+use Rattle.unit.specs.Model.{wall}
+use Rattle.unit.specs.Judges.{judged}
+use Rattle.turns.proofs.judge_open_tail.Statement.{statement}
+use Rattle.turns.proofs.judge_open_tail.Tie as tie
+
+store-ok-requires : tie.Need-store-ok-requires
+store-ok-requires c κs = search needs
+
+work-ok-requires : tie.Need-work-ok-requires
+work-ok-requires c κs = search needs
+
+and-requires : tie.Need-and-requires
+and-requires c κs = search needs
+
+judge-requires : tie.Need-judge-requires
+judge-requires c κs = search needs
+
+returns : tie.Need-returns
+returns c =
+    let lent = c .before in
+    let work = lent .before in
+    let s = work .before .before .args .s in
+    let lengths = lent .and .ensures ∙ (λ i. work .before .store-ok .ensures i && work .work-ok .ensures i) in
+    c .judge .ensures ∙ ap (λ (b : Bool). judged wall (ofState s) b true (not (s .busy))) lengths
+
+pub judge-open-tail-spec : {M : Type 1} → statement M
+judge-open-tail-spec =
+    tie.close
+    (tie.spec
+    store-ok-requires
+    work-ok-requires
+    and-requires
+    judge-requires
+    returns)

@@ -1,0 +1,52 @@
+-- `turns::judge_read` meets its contract. Assumes nothing.
+use borrow.Author.Needs.{needs}
+use mathlib.Core.Path.{_∙_}
+use mathlib.Core.Bool.{not, _&&_}
+use lib.Dec.{ltb}
+use Rattle.unit.specs.Hall.{ofState}
+use Rattle.unit.specs.Model.{wall}
+use Rattle.unit.specs.Judges.{judged}
+use Rattle.turns.proofs.judge_read.Statement.{statement}
+use Rattle.turns.proofs.judge_read.Tie as tie
+
+store-ok-requires : tie.Need-store-ok-requires
+store-ok-requires c κs = search needs
+
+work-ok-requires : tie.Need-work-ok-requires
+work-ok-requires c κs = search needs
+
+and-requires : tie.Need-and-requires
+and-requires c κs = search needs
+
+marked-requires : tie.Need-marked-requires
+marked-requires c κs = search needs
+
+and-requires-2 : tie.Need-and-requires-2
+and-requires-2 c κs = search needs
+
+judge-requires : tie.Need-judge-requires
+judge-requires c κs = search needs
+
+returns : tie.Need-returns
+returns c =
+    let both = c .before in
+    let mark = both .before in
+    let lent = mark .before in
+    let work = lent .before in
+    let a = work .before .before .before .args in
+    let s = a .s in
+    let lengths = lent .and .ensures ∙ (λ i. work .before .store-ok .ensures i && work .work-ok .ensures i) in
+    let turn = both .and2 .ensures ∙ (λ i. s .busy && not (mark .marked .ensures i)) in
+    c .judge .ensures ∙ (λ i. judged wall (ofState s) (lengths i) (ltb (a .line) 16) (turn i))
+
+pub judge-read-spec : {M : Type 1} → statement M
+judge-read-spec =
+    tie.close
+    (tie.spec
+    store-ok-requires
+    work-ok-requires
+    and-requires
+    marked-requires
+    and-requires-2
+    judge-requires
+    returns)

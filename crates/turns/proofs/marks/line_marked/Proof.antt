@@ -1,0 +1,29 @@
+-- `turns::marks::line_marked` meets its contract. Assumes nothing.
+use mathlib.Core.Path.{_≡_, sym}
+use mathlib.Core.Bool.{false}
+use Prim.Native.Nat.{_+_, _≤_}
+use lib.ListN.{length}
+use Rattle.turns.proofs.MarkLaws.{past}
+use native.Mathlib.Omega.{arith}
+use borrow.Author.Needs.{needs}
+use Rattle.turns.proofs.marks.line_marked.Statement.{statement}
+use Rattle.turns.proofs.marks.line_marked.Tie as tie
+
+add-result : tie.Need-add-result
+add-result c = search needs
+
+array-read-result : tie.Need-array-read-result
+array-read-result c = search needs
+
+returns : tie.Need-returns
+returns c = search needs
+
+returns-2 : tie.Need-returns-2
+returns-2 c =
+    let marks = c .before .args .t1 in
+    let all : length marks ≡ 34 = search needs in
+    let far : length marks ≤ 16 + 1 + c .before .args .line = omega (arith, all) in
+    sym (past marks (16 + 1 + c .before .args .line) false far)
+
+pub line-marked-spec : {M : Type 1} → statement M
+line-marked-spec = tie.close (tie.spec add-result array-read-result returns returns-2)
