@@ -99,3 +99,6 @@ frame-run n f k d tail ls cs ps qs fs gs store work w h all eg ew =
 -- a memory cleared after others have had it is as long as it was
 pub cleared-as-long : (w : List Float) (k l : ℕ) → w ≡ replicate k +0 → k ≡ l → w ≡ replicate l +0
 cleared-as-long w k l e h = e ∙ ap (λ (n : ℕ). replicate n +0) h
+
+pub cond-of : {A : Type 0} (b b′ : Bool) (x y : A) → b ≡ b′ → cond b x y ≡ cond b′ x y
+cond-of b b′ x y e = ap (λ (t : Bool). cond t x y) e

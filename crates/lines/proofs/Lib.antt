@@ -7,3 +7,5 @@ pub mod RowJoins
 pub mod Parts
 pub mod FrameParts
 pub mod Room
+pub mod RowsOf
+pub mod Rooms

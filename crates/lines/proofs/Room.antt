@@ -23,9 +23,9 @@ use Rattle.unit.specs.Sizes.{lengthsFrom, lineLengths, total, storeLen, workLen
 use Rattle.unit.specs.Range.{below, linesOk, passesOk}
 use Rattle.unit.specs.Judges.{roomOk}
 use Rattle.frame.specs.Frame.{Frame, frameFrom, frameIn}
-use Rattle.frame.specs.Settle.{allMoved, settledIn}
+use Rattle.frame.specs.Settle.{allMoved}
 use Rattle.lines.specs.Work.{Rings, Within, WholeFits, frameBy}
-use Rattle.lines.specs.Steps.{judgedStore, steppedStore}
+use Rattle.lines.specs.Steps.{judgedStore, ended, endedStore, steppedStore}
 
 -- what all pass, the element at i passes, and so does what stands past the end where it passes
 all-or : {A : Type 0} (p : ℕ → A → Bool) (xs : List A) (k i : ℕ) (d : A) → allFrom p k xs ≡ true → p (k + i) d ≡ true → p (k + i) (getD xs i d) ≡ true
@@ -111,7 +111,7 @@ store-holds : (f store : ℕ) → store ≡ storeLen wall f → 0 + total (lengt
 unfolding storeLen
 store-holds f store e = omega arith
 
-passes-small : total (wall .passes) ≤ 65536
+pub passes-small : total (wall .passes) ≤ 65536
 unfolding total
 passes-small = omega arith
 
@@ -120,7 +120,7 @@ store-parts : (f store : ℕ) → store ≡ storeLen wall f → total (take 16 (
 unfolding storeLen
 store-parts f store e q = e ∙ ap (λ (k : ℕ). k + total (wall .passes)) (sym q)
 
-work-parts : (f work : ℕ) → work ≡ workLen wall f → work ≡ f + 16 * f + 16 * f + f + total (wall .passes)
+pub work-parts : (f work : ℕ) → work ≡ workLen wall f → work ≡ f + 16 * f + 16 * f + f + total (wall .passes)
 unfolding workLen
 work-parts f work e = omega arith
 
@@ -167,8 +167,14 @@ frame-wall f tail ls cs qs fs input store e = rw (e, every-line f) refl
 
 module _ (f : ℕ) (ls : List ℕ) (cs : List Cursors) (r r′ : Frame) (e : ls ≡ lineLengths wall f) (q : r ≡ r′) where
   pub store-wall : (store : List Float) → judgedStore 16 f ls cs r store ≡ steppedStore wall f cs true r′ store
-  unfolding judgedStore steppedStore settledIn
+  unfolding judgedStore endedStore
   store-wall store = rw (e, q) refl
 
 pub lines-wall : (f : ℕ) (ls : List ℕ) (cs ds : List Cursors) → ls ≡ lineLengths wall f → ds ≡ allMoved f (take 16 ls) cs → ds ≡ allMoved f (lineLengths wall f) cs
 lines-wall f ls cs ds e q = q ∙ ap (λ (l : List ℕ). allMoved f l cs) (ap (take 16) e ∙ every-line f)
+
+-- where there is room, the filters from before don't count
+pub ended-as : (f : ℕ) (cs qs : List Cursors) (fs fs′ gs gs′ : List Filter) (ok ok′ : Bool) → ok ≡ ok′ → gs ≡ gs′
+    → ended wall f cs qs true fs ok gs ≡ ended wall f cs qs true fs′ ok′ gs′
+unfolding ended
+ended-as f cs qs fs fs′ gs gs′ ok ok′ e q = λ i. record { ok = e i; filters = q i; lines = allMoved f (lineLengths wall f) cs; passes = allMoved f (wall .passes) qs }

@@ -1,2 +1,4 @@
 pub mod Work
 pub mod Steps
+pub mod Rows
+pub mod Parts

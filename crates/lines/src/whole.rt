@@ -75,6 +75,30 @@ pub(crate) fn settle_if(
     settle_frame(n, f, ls, cs, work, store, output);
 }
 
+// Judges a frame that lies in the work memory, its filters `fs`; where all of it is finite, puts it
+// into the store and the output too. The work memory is cleared.
+pub(crate) fn finish_frame(
+    n: usize,
+    f: usize,
+    ls: [usize; 16],
+    cs: [Cursors; 16],
+    fs: [Filter; 51],
+    store: &mut [f32],
+    work: &mut [f32],
+    output: &mut [f32],
+) -> bool
+    requires { ⌜ SettleFits n f ls cs (length (now store)) (length (now work)) (length (now output)) ⌝ }
+    ensures { λ r. ⌜ r ≡ (filtersFinite fs && allFinite (drop (f + n * f) (now (work .entry)))) ⌝ }
+    ensures { λ _. ⌜ now (store .exit) ≡ cond (filtersFinite fs && allFinite (drop (f + n * f) (now (work .entry)))) (putRows f n 0 ls cs (take (n * f) (drop (f + n * f) (now (work .entry)))) (drop (f + n * f + n * f + f) (now (work .entry))) (now (store .entry))) (now (store .entry)) ⌝ }
+    ensures { λ _. ⌜ now (work .exit) ≡ replicate (length (now (work .entry))) +0 ⌝ }
+    ensures { λ _. ⌜ now (output .exit) ≡ cond (filtersFinite fs && allFinite (drop (f + n * f) (now (work .entry)))) (take f (drop (f + n * f + n * f) (now (work .entry)))) (now (output .entry)) ⌝ }
+{
+    let ok = frame_finite(n, f, fs, work);
+    settle_if(ok, n, f, ls, cs, work, store, output);
+    clear(work);
+    ok
+}
+
 // A frame in the work memory, which begins with the input; where all of it is finite, in the store
 // and the output too. The work memory is cleared.
 pub(crate) fn judge_frame(
@@ -100,8 +124,6 @@ pub(crate) fn judge_frame(
     ensures { λ _. ⌜ now (output .exit) ≡ judgedOutput (frameBy n f factor divisor tail ls cs ps qs fs (take f (now (work .entry))) (now (store .entry))) (now (output .entry)) ⌝ }
 {
     let gs = frame_rows(n, f, factor, divisor, tail, ls, cs, ps, qs, fs, store, work);
-    let ok = frame_finite(n, f, gs, work);
-    settle_if(ok, n, f, ls, cs, work, store, output);
-    clear(work);
+    let ok = finish_frame(n, f, ls, cs, gs, store, work, output);
     Judged { ok, filters: gs }
 }

@@ -24,10 +24,10 @@ use Rattle.unit.specs.Model.{wall}
 use Rattle.unit.specs.Fresh.{blank}
 use Rattle.frame.specs.Lines.{filtersOf}
 use Rattle.frame.specs.Frame.{Frame, frameFrom, frameOf, newFilters, lineRows}
-use Rattle.frame.specs.Settle.{frameFinite, nineOf, settled}
+use Rattle.frame.specs.Settle.{frameFinite, nineOf, settled, settledIn}
 use Rattle.frame.specs.Steps.{copied}
 use Rattle.lines.specs.declared.Stepped.{Stepped}
-use Rattle.lines.specs.Steps.{judgedOutput, stepped, steppedStore, steppedWork, steppedOutput}
+use Rattle.lines.specs.Steps.{ended, endedStore, endedWork, endedOutput, stepped, steppedStore, steppedOutput}
 use Rattle.reverb.specs.declared.Outcome.{Outcome}
 use Rattle.reverb.specs.Whole.{movedOn, after, outcome, wholeAnswer, wholeOutcome, wholeUnit, wholeStore, wholeWork, wholeOutput}
 
@@ -45,22 +45,22 @@ concluded u x count =
 -- where there is room, what a frame came to and left is what a whole call gives and leaves
 pub played : (u : Hall) (fs : List Filter) (r : Frame) (count : ℤ) (room : Bool) (x : Stepped) (y : Outcome) (store store′ work work′ output output′ : List Float)
     → room ≡ true → x ≡ stepped wall (u .frame) (u .lines) (u .passes) room fs r → store′ ≡ steppedStore wall (u .frame) (u .lines) room r store
-    → work′ ≡ steppedWork room work → output′ ≡ steppedOutput room r output → y ≡ concluded u x count → Played u r count y store store′ work work′ output output′
-unfolding stepped steppedStore steppedWork steppedOutput judgedOutput wholeUnit wholeStore wholeOutput
+    → work′ ≡ endedWork room work → output′ ≡ steppedOutput room r output → y ≡ concluded u x count → Played u r count y store store′ work work′ output output′
+unfolding ended endedStore endedWork endedOutput settledIn wholeUnit wholeStore wholeOutput
 played u fs r count room x y store store′ work work′ output output′ h ex es ew eo ey =
     let q : Played u r count (concluded u (stepped wall (u .frame) (u .lines) (u .passes) true fs r) count)
-    store (steppedStore wall (u .frame) (u .lines) true r store) work (steppedWork true work) output (steppedOutput true r output) = go (frameFinite r) refl in
+    store (steppedStore wall (u .frame) (u .lines) true r store) work (endedWork true work) output (steppedOutput true r output) = go (frameFinite r) refl in
     let here = ey ∙ ap (λ (z : Stepped). concluded u z count) (ex ∙ ap (λ (b : Bool). stepped wall (u .frame) (u .lines) (u .passes) b fs r) h) in (
       here ∙ q .0,
       (
         es ∙ ap (λ (b : Bool). steppedStore wall (u .frame) (u .lines) b r store) h ∙ q .1 .0,
-        (ew ∙ ap (λ (b : Bool). steppedWork b work) h ∙ q .1 .1 .0, eo ∙ ap (λ (b : Bool). steppedOutput b r output) h ∙ q .1 .1 .1),
+        (ew ∙ ap (λ (b : Bool). endedWork b work) h ∙ q .1 .1 .0, eo ∙ ap (λ (b : Bool). steppedOutput b r output) h ∙ q .1 .1 .1),
       ),
     )
   where
     go : (b : Bool) → frameFinite r ≡ b
         → Played u r count (concluded u (stepped wall (u .frame) (u .lines) (u .passes) true fs r) count)
-        store (steppedStore wall (u .frame) (u .lines) true r store) work (steppedWork true work) output (steppedOutput true r output)
+        store (steppedStore wall (u .frame) (u .lines) true r store) work (endedWork true work) output (steppedOutput true r output)
     go true e = rw e (refl, (refl, (refl, refl)))
     go false e = rw e (refl, (refl, (refl, refl)))
 

@@ -4,8 +4,6 @@
 // memory lent.
 mod units;
 
-use crate::units::fallen;
-use crate::units::quiet;
 use crate::units::whole_frame;
 use audio_buffer::AudioEffectState;
 use bands::Times;
@@ -21,6 +19,8 @@ use unit::judge_apply;
 use unit::judge_fresh;
 use unit::judge_reset;
 use unit::judge_tail;
+pub use units::fallen;
+pub use units::quiet;
 ghost use mathlib.Core.Path.{_≡_};
 ghost use lib.ListN.{length};
 ghost use Rattle.unit.specs.Hall.{ofState};

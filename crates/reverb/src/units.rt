@@ -23,7 +23,7 @@ ghost use Rattle.frame.specs.Settle.{fallen};
 ghost use Rattle.reverb.specs.Whole.{movedOn, outcome, wholeOutcome, wholeStore, wholeOutput};
 
 // The outcome of a call that leaves no tail to wait for.
-pub(crate) fn quiet(answer: Answer, state: State) -> Outcome
+pub fn quiet(answer: Answer, state: State) -> Outcome
     ensures { λ r. ⌜ r ≡ outcome answer (ofState state) TailComplete ⌝ }
 {
     Outcome {
@@ -87,7 +87,7 @@ pub(crate) fn whole_frame(
 }
 
 // One frame less to come, down to the least count there is.
-pub(crate) fn fallen(count: Frames) -> Frames
+pub fn fallen(count: Frames) -> Frames
     ensures { λ r. ⌜ r ≡ record { 0 = fallen (count .0) } ⌝ }
 {
     let n = count.0;

@@ -6,8 +6,8 @@ use lib.ListN.{take}
 use Rattle.frame.specs.Frame.{Frame, newFilters}
 use Rattle.frame.specs.Settle.{frameFinite}
 use Rattle.lines.specs.declared.whole.Judged.{Judged}
-use Rattle.lines.specs.Steps.{judgedOutput, stepped, steppedWork, steppedOutput}
-use Rattle.lines.proofs.Room.{frame-wall, store-wall, lines-wall}
+use Rattle.lines.specs.Steps.{judgedOutput, endedWork, endedOutput}
+use Rattle.lines.proofs.Room.{frame-wall, store-wall, ended-as}
 use Rattle.lines.proofs.wall_frame.Statement.{statement}
 use Rattle.lines.proofs.wall_frame.Tie as tie
 
@@ -21,15 +21,12 @@ judge-frame-requires c κs =
     let e = lined .line-lengths .ensures in
     rw e (p .fits, (p .out, refl))
 
-move-lines-requires : tie.Need-move-lines-requires
-move-lines-requires c κs =
+moved-on-requires : tie.Need-moved-on-requires
+moved-on-requires c κs =
     let lined = c .before .before .before .before .before .before .before .before .before .before .before in
     let p = lined .before .before .before .before .pre in
     let e = lined .line-lengths .ensures in
-    (p .fits .few, p .fits .small, rw e (p .lines))
-
-move-passes-requires : tie.Need-move-passes-requires
-move-passes-requires c κs = search needs
+    (p .short, e, rw e (p .lines), p .passes)
 
 same-length : tie.Need-same-length
 same-length c = search needs
@@ -41,19 +38,17 @@ same-length-3 : tie.Need-same-length-3
 same-length-3 c = search needs
 
 returns : tie.Need-returns
-unfolding stepped steppedWork steppedOutput
+unfolding judgedOutput endedWork endedOutput
 returns c =
-    let ran = c .before .before .before .before .before .before .before .before .before in
+    let ran = c .before .before .before .before .before .before .before .before in
     let lined = ran .before .before .before .before in
     let a = lined .before .before .before .before .args in
     let e = lined .line-lengths .ensures in
     let g = ran .judge-frame .ensures in
     let q = frame-wall (a .f) (a .tail) _ (a .cs) (a .qs) (a .fs) (take (a .f) (now (a .work))) (now (a .store)) e in
     let ok = ap (λ (r : Judged). r .ok) (g .0) ∙ ap frameFinite q in
-    let filters = ap (λ (r : Judged). r .filters) (g .0) ∙ ap newFilters q in
-    let lines = lines-wall (a .f) _ (a .cs) _ e (c .before .move-lines .ensures) in
-    let passes = c .move-passes .ensures in (
-      (λ i. record { ok = ok i; filters = filters i; lines = lines i; passes = passes i }),
+    let filters = ap (λ (r : Judged). r .filters) (g .0) ∙ ap newFilters q in (
+      c .moved-on .ensures ∙ ended-as (a .f) (a .cs) (a .qs) _ (a .fs) _ _ _ _ ok filters,
       (
         g .1 .0 ∙ store-wall (a .f) _ (a .cs) _ _ e q (now (a .store)),
         (g .1 .1 .0, g .1 .1 .1 ∙ ap (λ (r : Frame). judgedOutput r (now (a .output))) q),
@@ -66,8 +61,7 @@ wall-frame-spec =
     (tie.spec
     line-lengths-requires
     judge-frame-requires
-    move-lines-requires
-    move-passes-requires
+    moved-on-requires
     same-length
     same-length-2
     same-length-3

@@ -1,0 +1,80 @@
+-- `jobs::abandon` meets its contract. Assumes nothing.
+use borrow.Author.Needs.{needs}
+use denote.Ref.{now}
+use mathlib.Core.Path.{_≡_, ap, _∙_}
+use lib.ListN.{length}
+use Rattle.audio_buffer.specs.declared.AudioEffectState.the-variants.{TailComplete}
+use Rattle.unit.specs.Hall.{ofState}
+use Rattle.unit.specs.Model.{wall}
+use Rattle.turns.specs.Turns.{judgedAbandon}
+use Rattle.reverb.specs.Whole.{outcome}
+use Rattle.reverb.proofs.Outcomes.{old-left, new-left}
+use Rattle.jobs.specs.Close.{shut, cleared}
+use Rattle.jobs.proofs.abandon.Statement.{statement}
+use Rattle.jobs.proofs.abandon.Tie as tie
+
+judge-abandon-requires : tie.Need-judge-abandon-requires
+judge-abandon-requires c κs = search needs
+
+is-accepted-requires : tie.Need-is-accepted-requires
+is-accepted-requires c κs = search needs
+
+quiet-requires : tie.Need-quiet-requires
+quiet-requires c κs = search needs
+
+returns : tie.Need-returns
+returns c =
+    let tested = c .before .before in
+    let judged = tested .before in
+    let a = judged .before .before .args in
+    let b = judgedAbandon wall (ofState (a .s)) (length (now (a .work))) in
+    let e = judged .judge-abandon .ensures in
+    let t = tested .is-accepted .ensures in
+    let h = c .before .if1 .taken in
+    let old = ofState (a .s) in (
+      c .quiet .ensures ∙ (λ i. outcome (e i) (old-left _ b _ e t (shut wall old) old h i) TailComplete),
+      old-left _ b _ e t (cleared (now (a .work))) (now (a .work)) h,
+    )
+
+clear-requires : tie.Need-clear-requires
+clear-requires c κs = search needs
+
+shut-requires : tie.Need-shut-requires
+shut-requires c κs = search needs
+
+quiet-requires-2 : tie.Need-quiet-requires-2
+quiet-requires-2 c κs = search needs
+
+same-length : tie.Need-same-length
+same-length c = search needs
+
+returns-2 : tie.Need-returns-2
+returns-2 c =
+    let made = c .before in
+    let done = made .before .before .before in
+    let passed = done .before .before in
+    let tested = passed .before in
+    let judged = tested .before in
+    let a = judged .before .before .args in
+    let b = judgedAbandon wall (ofState (a .s)) (length (now (a .work))) in
+    let e = judged .judge-abandon .ensures in
+    let t = tested .is-accepted .ensures in
+    let h = passed .if1 .left in
+    let old = ofState (a .s) in (
+      c .quiet2 .ensures ∙ (λ i. outcome (e i) ((ap ofState (made .shut .ensures) ∙ new-left _ b _ e t (shut wall old) old h) i) TailComplete),
+      done .clear .ensures ∙ new-left _ b _ e t (cleared (now (a .work))) (now (a .work)) h,
+    )
+
+pub abandon-spec : {M : Type 1} → statement M
+abandon-spec =
+    tie.close
+    (tie.spec
+    judge-abandon-requires
+    is-accepted-requires
+    quiet-requires
+    returns
+    clear-requires
+    shut-requires
+    quiet-requires-2
+    same-length
+    returns-2)

@@ -1,0 +1,85 @@
+-- `jobs::close` meets its contract. Assumes nothing.
+use borrow.Author.Needs.{needs}
+use denote.Ref.{now}
+use mathlib.Core.Bool.{_&&_, true}
+use lib.ListN.{length}
+use Rattle.samples.proofs.Laws.{is-accepted}
+use Rattle.unit.specs.Hall.{ofState}
+use Rattle.unit.specs.Model.{wall}
+use Rattle.unit.specs.Judges.{lentOk}
+use Rattle.turns.specs.Marks.{allDone}
+use Rattle.turns.specs.Turns.{judgedClose}
+use Rattle.lines.specs.Rows.{rowsOf}
+use Rattle.reverb.proofs.Fits.{due-of, room-of}
+use Rattle.reverb.proofs.Outcomes.{refused, let-by}
+use Rattle.jobs.proofs.Closed.{all-as-was, as-ended}
+use Rattle.jobs.proofs.close.Statement.{statement}
+use Rattle.jobs.proofs.close.Tie as tie
+
+judge-close-requires : tie.Need-judge-close-requires
+judge-close-requires c κs = search needs
+
+is-accepted-requires : tie.Need-is-accepted-requires
+is-accepted-requires c κs = search needs
+
+quiet-requires : tie.Need-quiet-requires
+quiet-requires c κs = search needs
+
+returns : tie.Need-returns
+returns c =
+    let tested = c .before .before in
+    let judged = tested .before in
+    let a = judged .before .before .before .before .args in
+    let u = ofState (a .s) in
+    let due = judgedClose wall u (length (now (a .store))) (length (now (a .work))) (length (now (a .output))) in
+    let e = judged .judge-close .ensures in
+    let turned = refused _ due _ e (tested .is-accepted .ensures) (c .before .if1 .taken) in
+    all-as-was u due _ (rowsOf wall (u .frame) (now (a .work))) _ (now (a .store)) (now (a .work)) (now (a .output)) turned e (c .quiet .ensures)
+
+close-frame-requires : tie.Need-close-frame-requires
+close-frame-requires c κs = search needs
+
+concluded-requires : tie.Need-concluded-requires
+concluded-requires c κs = search needs
+
+same-length : tie.Need-same-length
+same-length c = search needs
+
+same-length-2 : tie.Need-same-length-2
+same-length-2 c = search needs
+
+same-length-3 : tie.Need-same-length-3
+same-length-3 c = search needs
+
+returns-2 : tie.Need-returns-2
+returns-2 c =
+    let ran = c .before .before .before .before .before .before .before in
+    let passed = ran .before .before .before .before .before .before .before in
+    let tested = passed .before in
+    let judged = tested .before in
+    let a = judged .before .before .before .before .args in
+    let u = ofState (a .s) in
+    let store = length (now (a .store)) in
+    let work = length (now (a .work)) in
+    let output = length (now (a .output)) in
+    let due = judgedClose wall u store work output in
+    let through = let-by _ due _ (judged .judge-close .ensures) (tested .is-accepted .ensures) (passed .if1 .left) in
+    let d = due-of u (lentOk wall u store work output) true (u .busy && allDone (u .marks)) (is-accepted due through) in
+    let g = ran .close-frame .ensures in
+    as-ended u due (rowsOf wall (u .frame) (now (a .work))) _ _ _ (now (a .store)) _ (now (a .work)) _ (now (a .output)) _ through
+    (room-of u store work output d (d .lent)) (g .0) (g .1 .0) (g .1 .1 .0) (g .1 .1 .1) (c .concluded .ensures)
+
+pub close-spec : {M : Type 1} → statement M
+close-spec =
+    tie.close
+    (tie.spec
+    judge-close-requires
+    is-accepted-requires
+    quiet-requires
+    returns
+    close-frame-requires
+    concluded-requires
+    same-length
+    same-length-2
+    same-length-3
+    returns-2)

@@ -1,0 +1,49 @@
+-- `jobs::ends::concluded` meets its contract. Assumes nothing.
+use borrow.Author.Needs.{needs}
+use mathlib.Core.Path.{_≡_, ap, _∙_}
+use mathlib.Core.Bool.{Bool, true, false, not, cond}
+use borrow.Author.Tests.{not-true, not-false}
+use Rattle.samples.specs.declared.Answer.the-variants.{Accepted, NotFinite}
+use Rattle.audio_buffer.specs.declared.AudioEffectState.the-variants.{TailComplete}
+use Rattle.unit.specs.declared.State.{State}
+use Rattle.unit.specs.Hall.{ofState}
+use Rattle.reverb.specs.Whole.{outcome}
+use Rattle.jobs.proofs.ends.concluded.Statement.{statement}
+use Rattle.jobs.proofs.ends.concluded.Tie as tie
+
+-- what is left where a test is refused, and where it is passed
+when-not : {A : Type 0} (ok : Bool) (r new old : A) → not ok ≡ true → r ≡ old → r ≡ cond ok new old
+when-not ok r new old h e = rw (not-true ok h) e
+
+when : {A : Type 0} (ok : Bool) (r new old : A) → not ok ≡ false → r ≡ new → r ≡ cond ok new old
+when ok r new old h e = rw (not-false ok h) e
+
+shut-requires : tie.Need-shut-requires
+shut-requires c κs = search needs
+
+quiet-requires : tie.Need-quiet-requires
+quiet-requires c κs = search needs
+
+returns : tie.Need-returns
+returns c =
+    let shut = c .before in
+    let taken = shut .before in
+    when-not (taken .before .before .args .frame .ok) _ _ _ (taken .if1 .taken)
+    (c .quiet .ensures ∙ ap (λ (t : State). outcome NotFinite (ofState t) TailComplete) (shut .shut .ensures))
+
+verdict-requires : tie.Need-verdict-requires
+verdict-requires c κs = search needs
+
+idle-requires : tie.Need-idle-requires
+idle-requires c κs = search needs
+
+returns-2 : tie.Need-returns-2
+returns-2 c =
+    let v = c .before .verdict .ensures in
+    let m = c .idle .ensures in
+    let left = c .before .before .before .before .before .before in
+    when (left .before .before .args .frame .ok) _ _ _ (left .if1 .left) (λ i. record { answer = Accepted; verdict = v i; state = m i })
+
+pub concluded-spec : {M : Type 1} → statement M
+concluded-spec =
+    tie.close (tie.spec shut-requires quiet-requires returns verdict-requires idle-requires returns-2)

@@ -1,0 +1,4 @@
+pub mod Held
+pub mod Play
+pub mod Steps
+pub mod Close

@@ -1,0 +1,50 @@
+-- `lines::close_frame` meets its contract. Assumes nothing.
+use borrow.Author.Needs.{needs}
+use denote.Ref.{now}
+use Rattle.lines.proofs.Room.{room-fits}
+use Rattle.lines.proofs.Rooms.{none, shut, let-in}
+use Rattle.lines.proofs.close_frame.Statement.{statement}
+use Rattle.lines.proofs.close_frame.Tie as tie
+
+room-ok-requires : tie.Need-room-ok-requires
+room-ok-requires c κs = search needs
+
+returns : tie.Need-returns
+returns c =
+    let a = c .before .before .before .before .before .args in
+    let e = shut _ _ (c .before .room-ok .ensures) (c .if1 .taken) in
+    rw e (none (a .f) (a .cs) (a .qs) (a .fs) _ _ _ _ _ (now (a .store)) (now (a .work)) (now (a .output)))
+
+wall-close-requires : tie.Need-wall-close-requires
+wall-close-requires c κs =
+    let tested = c .before .before .before in
+    let a = tested .before .before .before .before .before .args in
+    room-fits (a .f) (a .cs) (a .qs) _ _ _ (let-in _ _ (tested .before .room-ok .ensures) (tested .if1 .left))
+
+same-length : tie.Need-same-length
+same-length c = search needs
+
+same-length-2 : tie.Need-same-length-2
+same-length-2 c = search needs
+
+same-length-3 : tie.Need-same-length-3
+same-length-3 c = search needs
+
+returns-2 : tie.Need-returns-2
+returns-2 c =
+    let ran = c .before .before .before .before .before .before in
+    let tested = ran .before .before .before .before in
+    let e = let-in _ _ (tested .before .room-ok .ensures) (tested .if1 .left) in
+    rw e (ran .wall-close .ensures)
+
+pub close-frame-spec : {M : Type 1} → statement M
+close-frame-spec =
+    tie.close
+    (tie.spec
+    room-ok-requires
+    returns
+    wall-close-requires
+    same-length
+    same-length-2
+    same-length-3
+    returns-2)
