@@ -1,9 +1,8 @@
 -- Demand 1's finiteness: each call keeps all kept numbers finite, whatever its arguments. Assumes nothing.
 use Prim.Native.Nat.{ℕ, zero, suc, _+_}
 use mathlib.Core.Path.{_≡_, refl, sym, _∙_}
-use mathlib.Core.Bool.{true}
+use mathlib.Core.Bool.{Bool, true, false, cond}
 use mathlib.Core.List.{List, [], _∷_}
-use lib.IntN.{ℤ, pos}
 use lib.Ieee.{Float, ofBits}
 use lib.ListN.{length, getD, take, drop, replicate}
 use Rattle.samples.specs.declared.Answer.{Answer}
@@ -18,18 +17,28 @@ use Rattle.delay.specs.declared.Cursors.{Cursors}
 use Rattle.delay.specs.Calls.{both}
 use Rattle.delay.specs.Ring.{write}
 use Rattle.delay.proofs.Laws.{all-write, accept-either}
+use Rattle.iir.specs.declared.Filter.{Filter}
 use Rattle.iir.specs.Nine.{nine, finiteFilter}
 use Rattle.unit.specs.Hall.{Hall}
 use Rattle.unit.specs.Model.{Model}
 use Rattle.unit.specs.Sizes.{filtersLen}
-use Rattle.unit.specs.Fresh.{blank}
+use Rattle.unit.specs.Fresh.{blank, freshHall}
 use Rattle.unit.specs.Judges.{judgedFresh, judgedReset}
 use Rattle.frame.specs.Frame.{Frame, newFilters}
-use Rattle.frame.specs.Settle.{filtersFinite, frameFinite, nineOf, putRows, settled, settledIn, fallen}
-use Rattle.reverb.specs.Whole.{counted, wholeAnswer, wholeUnit, wholeStore, applyFrame, applyCount, tailFrame}
-use Rattle.demands.specs.Runs.{World, Call, fresh, reset, apply, tail, after, run, applyDue, tailDue}
-use Rattle.reverb.proofs.Fits.{both-let-by}
-use Rattle.demands.specs.Demands.{Kept, KeptFinite}
+use Rattle.frame.specs.Settle.{filtersFinite, frameFinite, nineOf, putRows, settledIn}
+use Rattle.reverb.specs.Whole.{wholeAnswer, wholeUnit, wholeStore}
+use Rattle.lines.specs.Rows.{Rows, rowsOf}
+use Rattle.turns.specs.Turns.{judgedClose}
+use Rattle.jobs.specs.Play.{frameFor, wholeDue}
+use Rattle.lines.specs.Parts.{rowsFinite}
+use Rattle.jobs.specs.Close.{nineOfRows, closeAnswer, closeUnit, closeStore}
+use Rattle.demands.specs.Jobs.{Memory, jobFilters}
+use Rattle.demands.specs.Calls.{Call, reset, whole, start, job, close, abandon, answer, after}
+use Rattle.demands.specs.Requests.{Slice, own, other, lent, left, Request, fresh, ask, seen, request}
+use Rattle.demands.specs.Runs.{Event, anew, asked, begun, run}
+use Rattle.demands.specs.Demands.{keptFilters, Kept, KeptFinite}
+use Rattle.demands.proofs.Lent.{or-first, or-second, told, whole-lent, close-lent, job-busy}
+use Rattle.demands.proofs.AnyOrderOpen.{opened-told}
 
 -- ---- what is put into finite rings leaves them finite
 
@@ -62,61 +71,138 @@ judged-finite r e =
     let q = split-and _ _ (p .1) in
     record { filters = p .0; put = q .0; rings = split-and (allFinite (r .output .out)) (allFinite (r .output .rings)) (q .1) .1 }
 
--- ---- a whole call
+-- and the rows of a close that is not
+pub record FiniteRows (fs : List Filter) (r : Rows) : Type 0 where
+  pub filters : filtersFinite fs ≡ true
+  pub put : allFinite (r .mixed) ≡ true
+  pub rings : allFinite (r .rings) ≡ true
 
-whole-kept : (m : Model) (u : Hall) (due : Answer) (r : Frame) (count : ℤ) (store : List Float) → allFinite store ≡ true → filtersFinite (u .filters) ≡ true
-    → Kept (record { unit = wholeUnit m u due r count; store = wholeStore m u due r store })
-unfolding wholeUnit wholeStore settledIn
-whole-kept m u due r count store s f = record {
-  store = accept-either (λ (x : List Float). allFinite x ≡ true) (wholeAnswer due r)
-      (λ e. let h = judged-finite r (both-let-by due (nineOf r) e .1) in finite-put _ _ 0 _ _ (r .lines .put) (r .output .rings) store (h .put) (h .rings) s)
-      (λ n. s);
-  filters = accept-either (λ (x : Hall). filtersFinite (x .filters) ≡ true) (wholeAnswer due r)
-      (λ e. judged-finite r (both-let-by due (nineOf r) e .1) .filters)
-      (λ n. f);
-}
+rows-finite : (fs : List Filter) (r : Rows) → nineOfRows fs r ≡ Accepted → FiniteRows fs r
+unfolding rowsFinite
+rows-finite fs r e =
+    let p = split-and (filtersFinite fs) _ (needed (rowsFinite fs r) NotFinite Accepted refl e .0) in
+    let q = split-and (allFinite (r .mixed)) _ (p .1) in
+    record { filters = p .0; put = q .0; rings = split-and (allFinite (r .output)) (allFinite (r .rings)) (q .1) .1 }
 
--- ---- fresh and reset
+-- ---- the filters, whatever the call is lent
 
-silent-kept : (a : Answer) (store : List Float) → allFinite store ≡ true → allFinite (accept a (replicate (length store) +0) store) ≡ true
-silent-kept a store h =
-    accept-either (λ (x : List Float). allFinite x ≡ true) a {new = replicate (length store) +0} {old = store} (λ e. finite-zeros (length store)) (λ n. h)
+abbrev Fine : Hall → Type 0
+Fine u = filtersFinite (keptFilters u) ≡ true
 
 finite-blank : (n k : ℕ) → allFrom (λ i f. finiteFilter f) k (replicate n blank) ≡ true
 unfolding nine finite ofBits
 finite-blank zero k = refl
 finite-blank (suc n) k = finite-blank n (suc k)
 
-fresh-kept : (m : Model) (w : World) (rate frame : ℕ) → allFinite (after m w (fresh rate frame) .store) ≡ true → Kept (after m w (fresh rate frame))
-unfolding after filtersFinite
-fresh-kept m w rate frame s = record {
-  store = s;
-  filters = accept-either (λ (x : Hall). allFrom (λ i f. finiteFilter f) 0 (x .filters) ≡ true) (judgedFresh m rate frame (length (w .store)))
-      (λ e. finite-blank (filtersLen m) 0)
-      (λ n. finite-blank (filtersLen m) 0);
-}
+fresh-fine : (m : Model) (w : Memory) (rate frame : ℕ) → Fine (begun m w rate frame .unit)
+unfolding filtersFinite
+fresh-fine m w rate frame =
+    accept-either Fine (judgedFresh m rate frame (length (w .store))) {new = freshHall m rate frame} {old = freshHall m 8000 4}
+    (λ e. finite-blank (filtersLen m) 0)
+    (λ n. finite-blank (filtersLen m) 0)
 
-call-kept : (m : Model) (w : World) (c : Call) → Kept w → Kept (after m w c)
-unfolding after
-call-kept m w (fresh rate frame) h =
-    fresh-kept m w rate frame (silent-kept (judgedFresh m rate frame (length (w .store))) (w .store) (h .store))
-call-kept m w reset h = record {
-  store = silent-kept (judgedReset m (w .unit) (length (w .store))) (w .store) (h .store);
-  filters = accept-either (λ (x : Hall). filtersFinite (x .filters) ≡ true) (judgedReset m (w .unit) (length (w .store))) {new = counted (w .unit) (pos 0)} {old = w .unit} (λ e. h .filters) (λ n. h .filters);
-}
-call-kept m w (apply t coefficients input work output) h =
-    whole-kept m (w .unit) (applyDue m w t coefficients input work output) (applyFrame m (w .unit) coefficients input (w .store)) (applyCount (w .unit) t) (w .store) (h .store) (h .filters)
-call-kept m w (tail work output) h =
-    whole-kept m (w .unit) (tailDue m w work output) (tailFrame m (w .unit) (w .store)) (fallen (w .unit .count)) (w .store) (h .store) (h .filters)
+module _ (m : Model) where
+  -- with a frame open they are those from before it, and else the unit's
+  from-before : (u : Hall) → u .busy ≡ true → Fine u → filtersFinite (u .before) ≡ true
+  from-before u b h = rw b at h
 
-run-kept : (m : Model) (w : World) (cs : List Call) → Kept w → Kept (run m w cs)
-unfolding run
-run-kept m w [] h = h
-run-kept m w (c ∷ cs) h = run-kept m (after m w c) cs (call-kept m w c h)
+  now : (u : Hall) → u .busy ≡ false → Fine u → filtersFinite (u .filters) ≡ true
+  now u b h = rw b at h
+
+  fine-now : (b : Bool) (before filters : List Filter) → b ≡ false → filtersFinite filters ≡ true → filtersFinite (cond b before filters) ≡ true
+  fine-now b before filters e h = rw e h
+
+  fine-before : (b : Bool) (before filters : List Filter) → b ≡ true → filtersFinite before ≡ true → filtersFinite (cond b before filters) ≡ true
+  fine-before b before filters e h = rw e h
+
+  abbrev FineIn : Memory → Type 0
+  FineIn w = Fine (w .unit)
+
+  call-fine : (w : Memory) (c : Call) → FineIn w → FineIn (after m w c)
+  unfolding answer after wholeUnit closeUnit
+  call-fine w reset h = accept-either Fine (judgedReset m (w .unit) (length (w .store))) (λ e. h) (λ n. h)
+  call-fine w (whole p output) h =
+      let u = w .unit in
+      let due = wholeDue m u p (length (w .store)) (length (w .work)) (length output) in
+      let r = frameFor m u p (w .store) in
+      accept-either Fine (wholeAnswer due r)
+      (λ e.
+      let free = whole-lent m u (length (w .store)) (length (w .work)) (length output) p (or-first due (nineOf r) e) .free in
+      fine-now (u .busy) (u .before) (newFilters r) free (judged-finite r (or-second due (nineOf r) e) .filters))
+      (λ n. h)
+  call-fine w (start p) h = accept-either FineIn (answer m w (start p)) (λ e. now (w .unit) (opened-told m w p e .free) h) (λ n. h)
+  call-fine w (job j) h =
+      accept-either FineIn (answer m w (job j))
+      (λ e. let busy = job-busy m w j e in fine-before (w .unit .busy) (w .unit .before) (jobFilters m w j) busy (from-before (w .unit) busy h))
+      (λ n. h)
+  call-fine w (close output) h =
+      let u = w .unit in
+      let due = judgedClose m u (length (w .store)) (length (w .work)) (length output) in
+      let r = rowsOf m (u .frame) (w .work) in
+      accept-either Fine due
+      (λ e.
+      accept-either Fine (nineOfRows (u .filters) r)
+      (λ q. rows-finite (u .filters) r q .filters)
+      (λ n. from-before u (close-lent m u (length (w .store)) (length (w .work)) (length output) e .busy) h))
+      (λ n. h)
+  call-fine w abandon h =
+      accept-either FineIn (answer m w abandon) (λ e. from-before (w .unit) (told m (w .unit) _ _ (w .unit .busy) e .on-turn) h) (λ n. h)
+
+  -- ---- the store that a call is lent
+
+  silent-kept : (a : Answer) (store : List Float) → allFinite store ≡ true → allFinite (accept a (replicate (length store) +0) store) ≡ true
+  silent-kept a store h =
+      accept-either (λ (x : List Float). allFinite x ≡ true) a {new = replicate (length store) +0} {old = store} (λ e. finite-zeros (length store)) (λ n. h)
+
+  call-finite : (w : Memory) (c : Call) → allFinite (w .store) ≡ true → allFinite (after m w c .store) ≡ true
+  unfolding answer after wholeStore closeStore settledIn
+  call-finite w reset h = silent-kept (judgedReset m (w .unit) (length (w .store))) (w .store) h
+  call-finite w (whole p output) h =
+      let u = w .unit in
+      let due = wholeDue m u p (length (w .store)) (length (w .work)) (length output) in
+      let r = frameFor m u p (w .store) in
+      accept-either (λ (x : List Float). allFinite x ≡ true) (wholeAnswer due r)
+      (λ e. let k = judged-finite r (or-second due (nineOf r) e) in finite-put _ _ 0 _ _ (r .lines .put) (r .output .rings) (w .store) (k .put) (k .rings) h)
+      (λ n. h)
+  call-finite w (start p) h = accept-either (λ (v : Memory). allFinite (v .store) ≡ true) (answer m w (start p)) (λ e. h) (λ n. h)
+  call-finite w (job j) h = accept-either (λ (v : Memory). allFinite (v .store) ≡ true) (answer m w (job j)) (λ e. h) (λ n. h)
+  call-finite w (close output) h =
+      let u = w .unit in
+      let due = judgedClose m u (length (w .store)) (length (w .work)) (length output) in
+      let r = rowsOf m (u .frame) (w .work) in
+      accept-either (λ (x : List Float). allFinite x ≡ true) (closeAnswer due u r)
+      (λ e.
+      let k = rows-finite (u .filters) r (or-second due (nineOfRows (u .filters) r) e) in
+      finite-put _ _ 0 _ _ (r .mixed) (r .rings) (w .store) (k .put) (k .rings) h)
+      (λ n. h)
+  call-finite w abandon h = accept-either (λ (v : Memory). allFinite (v .store) ≡ true) (answer m w abandon) (λ e. h) (λ n. h)
+
+  -- ---- the unit's own store, whatever is lent
+
+  own-finite : (s : Slice) (new mine : List Float) → (allFinite (lent s mine) ≡ true → allFinite new ≡ true) → allFinite mine ≡ true
+      → allFinite (left s new mine) ≡ true
+  own-finite own new mine f h = f h
+  own-finite (other xs) new mine f h = h
+
+  request-kept : (w : Memory) (r : Request) → Kept w → Kept (request m w r)
+  unfolding request
+  request-kept w (fresh rate frame s) h = record {
+    store = own-finite s _ (w .store) (silent-kept (judgedFresh m rate frame (length (lent s (w .store)))) (lent s (w .store))) (h .store);
+    filters = h .filters;
+  }
+  request-kept w (ask c s k) h = record {
+    store = own-finite s _ (w .store) (call-finite (seen w s k) c) (h .store);
+    filters = call-fine (seen w s k) c (h .filters);
+  }
+
+  run-kept : (w : Memory) (es : List Event) → Kept w → Kept (run m w es)
+  unfolding run
+  run-kept w [] h = h
+  run-kept w (anew rate frame ∷ es) h =
+      run-kept (begun m w rate frame) es
+      (record { store = silent-kept (judgedFresh m rate frame (length (w .store))) (w .store) (h .store); filters = fresh-fine m w rate frame })
+  run-kept w (asked r ∷ es) h = run-kept (request m w r) es (request-kept w r h)
 
 pub kept-finite : KeptFinite
-unfolding run after
-kept-finite m w rate frame e cs =
-    run-kept m (after m w (fresh rate frame)) cs
-    (fresh-kept m w rate frame
-    (rw e (finite-zeros (length (w .store)))))
+kept-finite m w rate frame e es =
+    run-kept m (begun m w rate frame) es (record { store = rw e (finite-zeros (length (w .store))); filters = fresh-fine m w rate frame })

@@ -1,199 +1,390 @@
--- A line hands out what it was given its length earlier. The invariant is its view, the ring as it lies from the cursor on: an accepted
--- call takes the row read off the front and joins the row put to the end, and a refused one leaves it. Assumes nothing.
-use Prim.Native.Nat.{ℕ, _+_, _*_, _%_, _<_, _≤_}
+-- A line hands out what it was given its length earlier. The invariant: L times +0 and all that it was given are what it handed out and then
+-- its view; and while a frame is open in which it was read, the row that waits is what the ring still holds there. Assumes nothing.
+use Prim.Native.Nat.{ℕ, _+_, _*_, _<_, _≤_}
 use mathlib.Core.Path.{_≡_, refl, sym, ap, _∙_}
-use mathlib.Core.Bool.{Bool, true, false, true≢false}
-use mathlib.Core.List.{List, [], _∷_, _++_, append-nil}
+use mathlib.Core.Bool.{Bool, true, false, _&&_, cond}
+use mathlib.Core.List.{List, [], _∷_, _++_, append-nil, append-assoc}
+use mathlib.Core.Logic.{_⊎_, inl, inr}
 use native.Mathlib.Nat.{zero-add}
 use native.Mathlib.Omega.{arith}
-use lib.IntN.{ℤ, pos}
+use borrow.Author.Tests.{eqb-true, eq-eqb}
+use lib.Dec.{eqb}
+use lib.IntN.{pos}
 use lib.Ieee.{Float}
-use lib.ListN.{length, getD, take, drop, replicate, length-append, length-replicate, getD-replicate}
+use lib.ListN.{length, take, drop, replicate, length-append, length-take, length-replicate, length-set, getD-replicate, take-append-drop}
+use lib.Seq.{take-at}
 use Rattle.samples.specs.declared.Answer.{Answer}
 use Rattle.samples.specs.declared.Answer.the-variants.{Accepted}
-use Rattle.samples.specs.declared.Samples.{Samples}
-use Rattle.samples.specs.Answers.{accept, accepted}
+use Rattle.samples.specs.Answers.{accept, accepted, orElse}
 use Rattle.samples.specs.Binary32.{+0}
-use Rattle.samples.proofs.Laws.{is-accepted, accept-no}
+use Rattle.samples.proofs.Laws.{split-and, is-accepted, accept-no}
 use Rattle.delay.specs.Calls.{both}
-use Rattle.delay.specs.Ring.{rotl, wrap}
-use Rattle.delay.proofs.Laws.{wrap-mod, read-view, length-rotl, rotl-same, turn-view, take-on}
+use Rattle.delay.proofs.Laws.{accept-either, rotl-same}
 use Rattle.unit.specs.Hall.{Hall}
 use Rattle.unit.specs.Model.{Model}
-use Rattle.unit.specs.Sizes.{lineLengths, filtersLen, storeLen}
+use Rattle.unit.specs.Sizes.{lineLengths, jobsLen, storeLen, workLen}
 use Rattle.unit.specs.Fresh.{freshHall}
-use Rattle.frame.specs.Lines.{readRows, filtersOf}
-use Rattle.frame.specs.Frame.{Frame, frameFrom, newFilters}
-use Rattle.frame.specs.Settle.{settled, settledIn, nineOf, fallen}
-use Rattle.frame.proofs.FrameLaws.{put-long}
-use Rattle.frame.proofs.RowLaws.{Held}
-use Rattle.reverb.specs.Whole.{after as played, counted, wholeAnswer, wholeUnit, wholeStore, applyFrame, applyCount, tailFrame}
-use Rattle.demands.specs.Runs.{World, Call, fresh, reset, apply, tail, after, applyDue, tailDue}
-use Rattle.demands.specs.LineLaw.{row, plays, AllPlay, ofFrame, ofFrames, Silent, freshly, by-reset, LineLaw}
-use Rattle.reverb.proofs.Fits.{both-let-by}
-use Rattle.demands.proofs.Lent.{fresh-long, Lent, reset-lent, tail-lent, apply-lent, cursors, within}
-use Rattle.demands.proofs.LineRings.{ringAt, row-long, ring-long, ring-same, read-row, put-row, lines-long, line-length, lines-held}
-use Rattle.demands.proofs.LineRings.{length-moved, moved-at}
+use Rattle.unit.specs.Judges.{storeOk, workOk}
+use Rattle.frame.specs.Frame.{frameFrom, newFilters}
+use Rattle.frame.specs.Settle.{nineOf, settled, settledIn, allMoved, putRows}
+use Rattle.reverb.specs.Whole.{after as played, counted, wholeAnswer, wholeUnit, wholeStore}
+use Rattle.turns.specs.Marks.{marked, mixMark, lineMark, outputMark}
+use Rattle.lines.specs.Rows.{row, rowsOf}
+use Rattle.turns.specs.Turns.{judgedClose}
+use Rattle.jobs.specs.Play.{Play, apply, tail, countFor, frameFor, wholeDue, opened}
+use Rattle.jobs.specs.Steps.{markedUnit, readRow}
+use Rattle.jobs.specs.Close.{nineOfRows, closed, shut, closeUnit, closeStore}
+use Rattle.demands.specs.Jobs.{Memory, Job, readJob, mixJob, lineJob, outputJob, jobWork}
+use Rattle.demands.specs.Calls.{Call, reset, whole, start, job, close, abandon, answer, after}
+use Rattle.demands.specs.Requests.{Slice, own, other, lent, left, Request, fresh, ask, seen, refusal, answerOf, request}
+use Rattle.demands.specs.LineLaw.{Account, turned, noted, account, Plays, plays-whole, plays-start, plays-job, plays-close, plays-abandon}
+use Rattle.demands.specs.LineLaw.{AllPlay, Silent, freshly, by-reset, LineLaw}
+use Rattle.demands.proofs.Lent.{or-first, told, fresh-long, Lent, reset-lent, whole-lent, close-lent, whole-put, cursors, within}
+use Rattle.demands.proofs.LineRings.{ring-same, read-row, line-length, lines-held, length-moved}
+use Rattle.demands.proofs.LineTurn.{Turn, view, held, read-long, equal-moved, ring-turn, work-rows, read-left}
+use Rattle.demands.proofs.AnyOrderMarks.{true≢false, set-there, done-at}
+use Rattle.demands.proofs.AnyOrderRequests.{refused-no, stays}
 
--- line i's ring as it lies from the read cursor on
-abbrev view : Model → ℕ → World → List Float
-view m i w = rotl (cursors (w .unit) i .read .0) (ringAt (lineLengths m (w .unit .frame)) 0 i (w .store))
+module _ (m : Model) (i : ℕ) (h : i < m .lines) (f : ℕ) where
+  -- ---- what holds between calls
 
--- line i of a unit whose frame is f, with its cursors equal
-record Line (m : Model) (i f : ℕ) (u : Hall) : Type 0 where
-  frame : u .frame ≡ f
-  lines : length (u .lines) ≡ m .lines
-  equal : cursors u i .read ≡ cursors u i .write
+  -- of the unit: its frame, its lines' cursors and its marks
+  record Line (u : Hall) : Type 0 where
+    frame : u .frame ≡ f
+    lines : length (u .lines) ≡ m .lines
+    equal : cursors u i .read ≡ cursors u i .write
+    marks : length (u .marks) ≡ jobsLen m
 
--- what is handed out is taken off the front of a view, and as much that is given is joined to its end
-record Turn (old new out given : List Float) : Type 0 where
-  fits : length given ≤ length old
-  taken : out ≡ take (length given) old
-  joined : new ≡ drop (length given) old ++ given
+  -- of the account
+  record Even (a : Account) (u : Hall) (store : List Float) : Type 0 where
+    all : replicate (m .delay i + f) +0 ++ a .given ≡ a .out ++ view m i (u .frame) (u .lines) store
+    long : length (a .out) ≡ length (a .given)
 
--- so that what is handed out in a turn and later is what the old view hands out
-turns : {old new out given : List Float} → Turn old new out given → (rest : List Float)
-    → out ++ take (length rest) (new ++ rest) ≡ take (length (given ++ rest)) (old ++ (given ++ rest))
-turns {old} {given = given} t rest = rw (t .taken, t .joined, length-append) (take-on old given rest (length rest) (t .fits))
+  record Holds (u : Hall) (store : List Float) (a : Account) : Type 0 where
+    line : Line u
+    even : Even a u store
+    waits : u .busy ≡ true → marked u i ≡ true → a .waiting ≡ readRow m u i store
 
-module _ (m : Model) (i : ℕ) (h : i < m .lines) where
-  -- ---- one call
+  -- a turn of the view keeps the account
+  turn-even : (zeros given out old new read put : List Float) → zeros ++ given ≡ out ++ old → Turn old new read put
+      → zeros ++ (given ++ put) ≡ (out ++ read) ++ new
+  turn-even zeros given out old new read put e t =
+      sym (append-assoc zeros given put)
+      ∙ ap (λ (l : List Float). l ++ put) e
+      ∙ append-assoc out old put
+      ∙ ap (λ (l : List Float). out ++ (l ++ put)) (sym (take-append-drop (length put) old))
+      ∙ ap (λ (l : List Float). out ++ l) (append-assoc (take (length put) old) (drop (length put) old) put)
+      ∙ sym (append-assoc out (take (length put) old) (drop (length put) old ++ put))
+      ∙ (λ x. (out ++ sym (t .taken) x) ++ sym (t .then) x)
 
-  -- from w to `new` it leaves the line as it must be, and makes a turn of its view
-  record Step (f : ℕ) (w new : World) (out given : List Float) : Type 0 where
-    line : Line m i f (new .unit)
-    turn : Turn (view m i w) (view m i new) out given
+  turn-long : (given out old new read put : List Float) → length out ≡ length given → Turn old new read put → length (out ++ read) ≡ length (given ++ put)
+  turn-long given out old new read put e t =
+      let l : length read ≡ length put = ap length (t .taken) ∙ length-take (length put) old ∙ omega (arith, t .fits) in
+      length-append out read ∙ omega (arith, length-append given put)
 
-  -- what an accepted frame makes of a world
-  abbrev settling : World → Frame → ℤ → World
-  settling w r count = record { unit = played m (w .unit) (newFilters r) count; store = settled m (w .unit) r (w .store) }
+  -- ---- a frame that is accepted
 
-  -- the frame r reads the lines of w
-  abbrev Reads : World → Frame → Type 0
-  Reads w r = r .reads ≡ readRows (w .unit .frame) (m .lines) 0 (lineLengths m (w .unit .frame)) (w .unit .lines) (w .store)
-
-  accepted-step : (f : ℕ) (w : World) (r : Frame) (count : ℤ) → Line m i f (w .unit) → Lent m (w .unit) (length (w .store)) → Reads w r
-      → length (r .lines .put) ≡ m .lines * w .unit .frame → Step f w (settling w r count) (row f i (r .reads)) (row f i (r .lines .put))
-  unfolding settledIn storeLen
-  accepted-step f′ w r count line lent reads e =
-      let u = w .unit in
-      let f : ℕ = u .frame in
-      let l : ℕ = m .delay i + f in
-      let k : ℕ = cursors u i .read .0 in
-      let ls = lineLengths m f in
-      let ring = ringAt ls 0 i (w .store) in
-      let put = row f i (r .lines .put) in
-      let held : Held f (m .lines) 0 ls (length (w .store)) = lines-held m f (length (w .store)) (omega (arith, lent .long)) in
-      let near : k < l = within m u i (lent .range) (omega (arith, line .lines)) in
-      let ll : getD ls i 0 ≡ l = line-length m f i h in
-      let lr : length ring ≡ l = ring-long f ls (m .lines) 0 i (w .store) h held ∙ rw zero-add ll in
-      let lp : length put ≡ f = row-long f (m .lines) i (r .lines .put) h e in
-      let moved = moved-at f ls (u .lines) i (omega (arith, lines-long m f)) (omega (arith, line .lines)) in
-      let on : (k + f) % l ≡ wrap (length ring) (k + length put) = rw (lr, lp) (sym (wrap-mod l (k + f) (omega arith))) in
-      rw (← line .frame)
+  -- from u to v, which has its cursors moved, with the rows put; no frame is open then
+  frame-holds : (u v : Hall) (store rows rings read : List Float) (a : Account) → Holds u store a → Lent m u (length store)
+      → length rows ≡ m .lines * u .frame → read ≡ readRow m u i store
+      → v .frame ≡ u .frame → v .lines ≡ allMoved (u .frame) (lineLengths m (u .frame)) (u .lines) → length (v .marks) ≡ jobsLen m → v .busy ≡ false
+      → Holds v (putRows (u .frame) (m .lines) 0 (lineLengths m (u .frame)) (u .lines) rows rings store) (turned a read (row (u .frame) i rows))
+  frame-holds u v store rows rings read a inv lent e q vf vl vm vb =
+      let line = inv .line in
+      let t = ring-turn m i h u store lent (line .lines) (line .equal) rows rings e in
+      let g = u .frame in
+      let put = row g i rows in
+      let new = view m i g (allMoved g (lineLengths m g) (u .lines)) (putRows g (m .lines) 0 (lineLengths m g) (u .lines) rows rings store) in
       record {
         line = record {
-          frame = refl;
-          lines = length-moved f ls (u .lines) ∙ line .lines;
-          equal = rw moved (ap (λ (c : Samples). record { 0 = (c .0 + f) % getD ls i 0 }) (line .equal));
+          frame = vf ∙ line .frame;
+          lines = ap length vl ∙ length-moved g (lineLengths m g) (u .lines) ∙ line .lines;
+          equal = rw vl (equal-moved m i h u store lent (line .lines) (line .equal));
+          marks = vm;
         };
-        turn = record {
-          fits = rw (length-rotl, lr, lp) (omega arith);
-          taken = rw (reads, lp, read-row f ls (u .lines) (m .lines) 0 i (w .store) h held, zero-add) (read-view ring k f);
-          joined =
-              rw (moved, ll, on, put-row f ls (u .lines) (m .lines) 0 i (r .lines .put) (r .output .rings) (w .store) h held, zero-add, ← line .equal)
-              (turn-view ring put k (omega arith) (omega arith));
-        };
+        even = rw (q, vl, vf)
+            record {
+              all = turn-even (replicate (m .delay i + f) +0) (a .given) (a .out) _ new (readRow m u i store) put (inv .even .all) t;
+              long = turn-long (a .given) (a .out) _ new (readRow m u i store) put (inv .even .long) t;
+            };
+        waits = λ b. absurd (true≢false (sym b ∙ vb));
       }
 
-  -- a refused call leaves the world, hands out nothing and is given nothing
-  refused-step : (f : ℕ) (w : World) → Line m i f (w .unit) → Step f w w [] []
-  refused-step f w line = record { line = line; turn = record { fits = omega arith; taken = refl; joined = sym (append-nil (view m i w)) } }
+  -- ---- a call that leaves the store and the cursors
 
-  -- the step of a call that is answered a
-  abbrev Answered : ℕ → World → World → List Float → List Float → Answer → Type 0
-  Answered f w new out given a =
-      Step f w (record { unit = accept a (new .unit) (w .unit); store = accept a (new .store) (w .store) }) (accept a out []) (accept a given [])
+  kept-holds : (u v : Hall) (store : List Float) (a : Account) → Holds u store a → v .frame ≡ u .frame → v .lines ≡ u .lines
+      → length (v .marks) ≡ jobsLen m → (v .busy ≡ true → marked v i ≡ true → a .waiting ≡ readRow m u i store) → Holds v store a
+  kept-holds u v store a inv vf vl vm w =
+      let line = inv .line in
+      record {
+        line = record { frame = vf ∙ line .frame; lines = ap length vl ∙ line .lines; equal = rw vl (line .equal); marks = vm };
+        even = rw (vl, vf) record { all = inv .even .all; long = inv .even .long };
+        waits = λ b c. rw (vl, vf) (w b c);
+      }
 
-  step-of : (f : ℕ) (w new : World) (out given : List Float) (a : Answer) → Line m i f (w .unit)
-      → (a ≡ Accepted → Step f w new out given) → Answered f w new out given a
-  step-of f w new out given a line p = go (accepted a) refl
+  -- a frame that is opened has no mark, and one that is shut isn't open
+  opened-holds : (u : Hall) (p : Play) (store : List Float) (a : Account) → Holds u store a → Holds (opened m u p) store a
+  opened-holds u p store a inv =
+      kept-holds u (opened m u p) store a inv refl refl (length-replicate (jobsLen m) false)
+      (λ b c. absurd (true≢false (sym c ∙ getD-replicate (jobsLen m) i false false (omega arith))))
+
+  shut-holds : (u : Hall) (store : List Float) (a : Account) → Holds u store a → Holds (shut m u) store a
+  shut-holds u store a inv =
+      kept-holds u (shut m u) store a inv refl refl (length-replicate (jobsLen m) false) (λ b c. absurd (true≢false (sym b)))
+
+  -- another job than read i
+  other-job : (u : Hall) (k : ℕ) (store : List Float) (a : Account) {fs : List _} → Holds u store a → (i ≡ k → ⊥) → Holds (markedUnit u k fs) store a
+  other-job u k store a {fs} inv apart =
+      kept-holds u (markedUnit u k fs) store a inv refl refl (length-set (u .marks) k true ∙ inv .line .marks)
+      (λ b c. inv .waits b (sym (set-there (u .marks) k i apart) ∙ c))
+
+  -- read i: its row waits
+  this-job : (u : Hall) (k : ℕ) (store waiting : List Float) (a : Account) {fs : List _} → Holds u store a → waiting ≡ readRow m u i store
+      → Holds (markedUnit u k fs) store (record { out = a .out; given = a .given; waiting = waiting })
+  this-job u k store waiting a inv e = record {
+    line = record {
+      frame = inv .line .frame;
+      lines = inv .line .lines;
+      equal = inv .line .equal;
+      marks = length-set (u .marks) k true ∙ inv .line .marks;
+    };
+    even = record { all = inv .even .all; long = inv .even .long };
+    waits = λ b c. e;
+  }
+
+  -- ---- a call answered a
+
+  accept-holds : (a : Answer) (u′ u : Hall) (s′ s : List Float) (b′ b : Account) → (a ≡ Accepted → Holds u′ s′ b′) → Holds u s b
+      → Holds (accept a u′ u) (accept a s′ s) (accept a b′ b)
+  accept-holds a u′ u s′ s b′ b p q = go (accepted a) refl
     where
-      go : (b : Bool) → accepted a ≡ b → Answered f w new out given a
-      go true e = let q = is-accepted a e in rw q (p q)
-      go false e = simp accept-no (refused-step f w line)
+      go : (x : Bool) → accepted a ≡ x → Holds (accept a u′ u) (accept a s′ s) (accept a b′ b)
+      go true e = let r = is-accepted a e in rw r (p r)
+      go false e = simp accept-no q
 
-  whole-step : (f : ℕ) (w : World) (due : Answer) (r : Frame) (count : ℤ) → Line m i f (w .unit) → Reads w r
-      → (due ≡ Accepted → Lent m (w .unit) (length (w .store)) × (length (r .lines .put) ≡ m .lines * w .unit .frame))
-      → Answered f w (settling w r count) (row f i (r .reads)) (row f i (r .lines .put)) (wholeAnswer due r)
-  whole-step f w due r count line reads lent =
-      step-of f w (settling w r count) (row f i (r .reads)) (row f i (r .lines .put)) (wholeAnswer due r) line
-      (λ e. let p = lent (both-let-by due (nineOf r) e .0) in accepted-step f w r count line (p .0) reads (p .1))
+  -- the same of a memory
+  memory-holds : (x : Answer) (new old : Memory) (b′ b : Account) → (x ≡ Accepted → Holds (new .unit) (new .store) b′) → Holds (old .unit) (old .store) b
+      → Holds (accept x new old .unit) (accept x new old .store) (accept x b′ b)
+  memory-holds x new old b′ b p q = go (accepted x) refl
+    where
+      go : (y : Bool) → accepted x ≡ y → Holds (accept x new old .unit) (accept x new old .store) (accept x b′ b)
+      go true e = let r = is-accepted x e in rw r (p r)
+      go false e = simp accept-no q
 
-  -- the rows put are as long as those read, the input of an apply too
-  call-step : (f : ℕ) (w : World) (c : Call) → plays c ≡ true → Line m i f (w .unit)
-      → Step f w (after m w c) (ofFrame m w (λ r. row f i (r .reads)) c) (ofFrame m w (λ r. row f i (r .lines .put)) c)
-  unfolding after wholeUnit wholeStore frameFrom
-  call-step f w (fresh rate frame) p line = absurd (true≢false (sym p))
-  call-step f w reset p line = absurd (true≢false (sym p))
-  call-step f w (apply t coefficients input work output) p line =
-      let u = w .unit in
-      let r = applyFrame m u coefficients input (w .store) in
-      whole-step f w (applyDue m w t coefficients input work output) r (applyCount u t) line refl
-      (λ e.
-      let q = apply-lent m w work output t coefficients input e in
-      (q .0, put-long (m .lines) (u .frame) (m .factor) (filtersOf (filtersLen m) coefficients) input (r .reads) false (q .1)))
-  call-step f w (tail work output) p line =
-      let u = w .unit in
-      let r = tailFrame m u (w .store) in
-      whole-step f w (tailDue m w work output) r (fallen (u .count)) line refl
-      (λ e. (tail-lent m w work output e, put-long (m .lines) (u .frame) (m .factor) (u .filters) [] (r .reads) true refl))
+  -- a close: what is due of it, and 9
+  close-accepts : (due nine : Answer) (v s u : Hall) (new store : List Float) (b a : Account)
+      → (due ≡ Accepted → Holds v new b) → (due ≡ Accepted → Holds s store a) → Holds u store a
+      → Holds (accept due (accept nine v s) u) (accept (orElse due nine) new store) (accept (orElse due nine) b a)
+  close-accepts due nine v s u new store b a p q r = go (accepted due) refl
+    where
+      go : (x : Bool) → accepted due ≡ x → Holds (accept due (accept nine v s) u) (accept (orElse due nine) new store) (accept (orElse due nine) b a)
+      go true e = let d = is-accepted due e in rw d (accept-holds nine v s new store b a (λ n. p d) (q d))
+      go false e = simp accept-no r
 
-  -- ---- calls, from any view
+  -- row i of what a whole call reads
+  whole-row : (u : Hall) (p : Play) (store : List Float) → Lent m u (length store) → row (u .frame) i (frameFor m u p store .reads) ≡ readRow m u i store
+  unfolding frameFrom
+  whole-row u (apply t coefficients input) store lent =
+      rw zero-add at (read-row (u .frame) (lineLengths m (u .frame)) (u .lines) (m .lines) 0 i store h (held m i h u store lent))
+  whole-row u tail store lent =
+      rw zero-add at (read-row (u .frame) (lineLengths m (u .frame)) (u .lines) (m .lines) 0 i store h (held m i h u store lent))
 
-  calls-view : (f : ℕ) (w : World) (cs : List Call) → AllPlay cs → Line m i f (w .unit)
-      → let given = ofFrames m w (λ r. row f i (r .lines .put)) cs in
-      ofFrames m w (λ r. row f i (r .reads)) cs ≡ take (length given) (view m i w ++ given)
-  unfolding ofFrames
-  calls-view f w [] p line = refl
-  calls-view f w (c ∷ cs) p line =
-      let s = call-step f w c (p .0) line in
-      rw (calls-view f (after m w c) cs (p .1) (s .line)) (turns (s .turn) _)
+  module _ (w : Memory) (a : Account) (inv : Holds (w .unit) (w .store) a) where
+    abbrev u : Hall
+    u = w .unit
 
-  -- ---- and from silence
+    -- after the call c on w
+    abbrev Then : Call → Type 0
+    Then c = Holds (after m w c .unit) (after m w c .store) (noted m i w a c)
 
+    whole-holds : (p : Play) (output : List Float) → Then (whole p output)
+    unfolding answer after noted wholeUnit wholeStore settledIn
+    whole-holds p output =
+        let due = wholeDue m u p (length (w .store)) (length (w .work)) (length output) in
+        let r = frameFor m u p (w .store) in
+        let f = u .frame in
+        accept-holds (wholeAnswer due r) (played m u (newFilters r) (countFor u p)) u (settled m u r (w .store)) (w .store)
+        (turned a (row f i (r .reads)) (row f i (r .lines .put))) a
+        (λ e.
+        let t = whole-lent m u (length (w .store)) (length (w .work)) (length output) p (or-first due (nineOf r) e) in
+        frame-holds u (played m u (newFilters r) (countFor u p)) (w .store) (r .lines .put) (r .output .rings) (row f i (r .reads)) a inv (t .lent)
+        (whole-put m u p (w .store) (t .input)) (whole-row u p (w .store) (t .lent)) refl refl (inv .line .marks) (t .free))
+        inv
+
+    close-holds : (output : List Float) → Then (close output)
+    unfolding answer after noted closeUnit closeStore
+    close-holds output =
+        let due = judgedClose m u (length (w .store)) (length (w .work)) (length output) in
+        let f = u .frame in
+        let r = rowsOf m f (w .work) in
+        close-accepts due (nineOfRows (u .filters) r) (closed m u) (shut m u) u
+        (putRows f (m .lines) 0 (lineLengths m f) (u .lines) (r .mixed) (r .rings) (w .store)) (w .store)
+        (turned a (a .waiting) (row f i (r .mixed))) a
+        (λ e.
+        let t = close-lent m u (length (w .store)) (length (w .work)) (length output) e in
+        frame-holds u (closed m u) (w .store) (r .mixed) (r .rings) (a .waiting) a inv (t .lent)
+        (work-rows m f (w .work) (t .work-long) .mixed) (inv .waits (t .busy) (done-at (u .marks) i (t .done) (omega (arith, inv .line .marks))))
+        refl refl (length-replicate (jobsLen m) false) refl)
+        (λ e. shut-holds u (w .store) a inv)
+        inv
+
+    -- a job
+    abbrev Stands : Memory → Type 0
+    Stands v = Holds (v .unit) (v .store) a
+
+    read-told : (j : ℕ) → answer m w (job (readJob j)) ≡ Accepted → Lent m u (length (w .store)) × (length (w .work) ≡ workLen m (u .frame))
+    unfolding answer
+    read-told j e =
+        let t = told m u (storeOk m u (length (w .store)) && workOk m u (length (w .work))) _ _ e in
+        let l = split-and (storeOk m u (length (w .store))) (workOk m u (length (w .work))) (t .lengths-ok) in
+        (record { range = t .range; long = eqb-true _ _ (l .0) }, eqb-true _ _ (l .1))
+
+    read-holds : (j : ℕ) → Then (job (readJob j))
+    unfolding after noted
+    read-holds j = go (eqb j i) refl
+      where
+        left : List Float
+        left = row (u .frame) i (rowsOf m (u .frame) (jobWork m w (readJob j)) .reads)
+
+        new : Account
+        new = record { out = a .out; given = a .given; waiting = left }
+
+        its-row : j ≡ i → answer m w (job (readJob j)) ≡ Accepted → left ≡ readRow m u i (w .store)
+        its-row q e =
+            let t = read-told j e in
+            ap (λ (k : ℕ). row (u .frame) i (rowsOf m (u .frame) (jobWork m w (readJob k)) .reads)) q
+            ∙ read-left m u i (w .store) (w .work) h (t .1) (read-long m i h u (w .store) (t .0))
+
+        then : Memory
+        then = record { unit = markedUnit u j (u .filters); store = w .store; work = jobWork m w (readJob j) }
+
+        go : (b : Bool) → eqb j i ≡ b → Then (job (readJob j))
+        go true e =
+            let q : j ≡ i = eqb-true j i e in
+            rw e (memory-holds (answer m w (job (readJob j))) then w new a (λ d. this-job u j (w .store) left a inv (its-row q d)) inv)
+        go false e =
+            let apart : i ≡ j → ⊥ = λ q. true≢false (sym (eq-eqb j i (sym q)) ∙ e) in
+            rw e (accept-either Stands (answer m w (job (readJob j))) (λ d. other-job u j (w .store) a inv apart) (λ n. inv))
+
+    job-holds : (j : Job) → Then (job j)
+    unfolding after noted
+    job-holds (readJob j) = read-holds j
+    job-holds mixJob =
+        accept-either Stands (answer m w (job mixJob)) (λ e. other-job u (mixMark m) (w .store) a inv (λ q. omega arith)) (λ n. inv)
+    job-holds (lineJob j) =
+        accept-either Stands (answer m w (job (lineJob j))) (λ e. other-job u (lineMark m j) (w .store) a inv (λ q. omega arith)) (λ n. inv)
+    job-holds outputJob =
+        accept-either Stands (answer m w (job outputJob)) (λ e. other-job u (outputMark m) (w .store) a inv (λ q. omega arith)) (λ n. inv)
+
+  -- ---- requests
+
+  -- the account after one
+  abbrev entered : Memory → Account → Request → Account
+  entered w a (fresh rate frame s) = a
+  entered w a (ask c s k) = noted m i (seen w s k) a c
+
+  -- a refused one enters nothing
+  refused-same : (x : Answer) (new a : Account) → refusal x ≡ true → accept x new a ≡ a
+  refused-same x new a e = accept-no x new a (refused-no x e)
+
+  nothing-noted : (w : Memory) (a : Account) (c : Call) → refusal (answer m w c) ≡ true → noted m i w a c ≡ a
+  unfolding noted
+  nothing-noted w a reset e = refl
+  nothing-noted w a (whole p output) e = refused-same (answer m w (whole p output)) _ a e
+  nothing-noted w a (start p) e = refl
+  nothing-noted w a (job (readJob j)) e = either (eqb j i) (refused-same (answer m w (job (readJob j))) _ a e)
+    where
+      either : (b : Bool) {x : Account} → x ≡ a → cond b x a ≡ a
+      either true q = q
+      either false q = refl
+  nothing-noted w a (job mixJob) e = refl
+  nothing-noted w a (job (lineJob j)) e = refl
+  nothing-noted w a (job outputJob) e = refl
+  nothing-noted w a (close output) e = refused-same (answer m w (close output)) _ a e
+  nothing-noted w a abandon e = refl
+
+  nothing-entered : (w : Memory) (a : Account) (r : Request) → refusal (answerOf m w r) ≡ true → entered w a r ≡ a
+  unfolding answerOf
+  nothing-entered w a (fresh rate frame s) e = refl
+  nothing-entered w a (ask c s k) e = nothing-noted (seen w s k) a c e
+
+  -- what is lent and left as it was
+  left-lent : (s : Slice) (mine : List Float) → left s (lent s mine) mine ≡ mine
+  left-lent own mine = refl
+  left-lent (other xs) mine = refl
+
+  plays-holds : (w : Memory) (a : Account) (r : Request) → Plays r → Holds (w .unit) (w .store) a
+      → Holds (request m w r .unit) (request m w r .store) (entered w a r)
+  unfolding request after noted
+  plays-holds w a r (plays-whole p output k) inv = whole-holds (seen w own k) a inv p output
+  plays-holds w a r (plays-start p s k) inv =
+      accept-either (λ (v : Memory). Holds (v .unit) (left s (v .store) (w .store)) a) (answer m (seen w s k) (start p))
+      (λ e. rw (left-lent s (w .store)) (opened-holds (w .unit) p (w .store) a inv))
+      (λ n. rw (left-lent s (w .store)) inv)
+  plays-holds w a r (plays-job j k) inv = job-holds (seen w own k) a inv j
+  plays-holds w a r (plays-close output k) inv = close-holds (seen w own k) a inv output
+  plays-holds w a r (plays-abandon s k) inv =
+      accept-either (λ (v : Memory). Holds (v .unit) (left s (v .store) (w .store)) a) (answer m (seen w s k) abandon)
+      (λ e. rw (left-lent s (w .store)) (shut-holds (w .unit) (w .store) a inv))
+      (λ n. rw (left-lent s (w .store)) inv)
+
+  one-holds : (w : Memory) (a : Account) (r : Request) → Plays r ⊎ (refusal (answerOf m w r) ≡ true) → Holds (w .unit) (w .store) a
+      → Holds (request m w r .unit) (request m w r .store) (entered w a r)
+  one-holds w a r (inl p) inv = plays-holds w a r p inv
+  one-holds w a r (inr e) inv = rw (stays m w r e, nothing-entered w a r e) inv
+
+  law : (w : Memory) (a : Account) (rs : List Request) → AllPlay m w rs → Holds (w .unit) (w .store) a
+      → let b = account m i w a rs in
+      b .out ≡ take (length (b .given)) (replicate (m .delay i + f) +0 ++ b .given)
+  unfolding account AllPlay
+  law w a [] p inv = rw (inv .even .all) (sym (take-at (a .out) _ (length (a .given)) (inv .even .long)))
+  law w a (fresh rate frame s ∷ rs) p inv =
+      law (request m w (fresh rate frame s)) a rs (p .1) (one-holds w a (fresh rate frame s) (p .0) inv)
+  law w a (ask c s k ∷ rs) p inv =
+      law (request m w (ask c s k)) (noted m i (seen w s k) a c) rs (p .1) (one-holds w a (ask c s k) (p .0) inv)
+
+-- ---- from silence
+
+abbrev nothing : Account
+nothing = record { out = []; given = []; waiting = [] }
+
+module _ (m : Model) (i : ℕ) (h : i < m .lines) where
   silent-view : (u : Hall) (store : ℕ) → store ≡ storeLen m (u .frame) → cursors u i .read .0 ≤ m .delay i + u .frame
-      → view m i (record { unit = u; store = replicate store +0 }) ≡ replicate (m .delay i + u .frame) +0
+      → view m i (u .frame) (u .lines) (replicate store +0) ≡ replicate (m .delay i + u .frame) +0
   unfolding storeLen
   silent-view u store e b =
       let f = u .frame in
       let same = ring-same f (lineLengths m f) (m .lines) 0 i store +0 h (lines-held m f store (omega arith)) in
       rw (same, zero-add, line-length m f i h) (rotl-same (m .delay i + f) (cursors u i .read .0) +0 b)
 
-  record Begun (w : World) : Type 0 where
-    line : Line m i (w .unit .frame) (w .unit)
-    silent : view m i w ≡ replicate (m .delay i + w .unit .frame) +0
+  -- with no frame open
+  from-silence : (u : Hall) (store : ℕ) → store ≡ storeLen m (u .frame) → cursors u i .read .0 ≤ m .delay i + u .frame → u .busy ≡ false
+      → Line m i h (u .frame) u → Holds m i h (u .frame) u (replicate store +0) nothing
+  from-silence u store e b free line = record {
+    line = line;
+    even = record { all = append-nil (replicate (m .delay i + u .frame) +0) ∙ sym (silent-view u store e b); long = refl };
+    waits = λ q. absurd (true≢false (sym q ∙ free));
+  }
 
-  begun : (w : World) → Silent m w → Begun w
-  unfolding after
-  begun w (freshly w₀ rate frame e) =
+  begins : (w : Memory) → Silent m w → Holds m i h (w .unit .frame) (w .unit) (w .store) nothing
+  unfolding answer after
+  begins w (freshly w₀ rate frame e) =
       let c = getD-replicate (m .lines) i (both 0) (both 0) h in
       rw e
+      (from-silence (freshHall m rate frame) (length (w₀ .store)) (fresh-long m rate frame (length (w₀ .store)) e) (rw c (omega arith)) refl
       record {
-        line = record { frame = refl; lines = length-replicate (m .lines) (both 0); equal = rw c refl };
-        silent = silent-view (freshHall m rate frame) (length (w₀ .store)) (fresh-long m rate frame (length (w₀ .store)) e) (rw c (omega arith));
-      }
-  begun w (by-reset w₀ sized e together) =
+        frame = refl;
+        lines = length-replicate (m .lines) (both 0);
+        equal = rw c refl;
+        marks = length-replicate (jobsLen m) false;
+      })
+  begins w (by-reset w₀ sized e together) =
       let u = w₀ .unit in
-      let lent = reset-lent m u (length (w₀ .store)) e in
-      let near = within m u i (lent .range) (omega (arith, sized .lines)) in
+      let t = reset-lent m u (length (w₀ .store)) e in
+      let near = within m u i (t .0 .range) (omega (arith, sized .lines)) in
       rw e
-      record {
-        line = record { frame = refl; lines = sized .lines; equal = together .lines i };
-        silent = silent-view (counted u (pos 0)) (length (w₀ .store)) (lent .long) (omega arith);
-      }
+      (from-silence (counted u (pos 0)) (length (w₀ .store)) (t .0 .long) (omega arith) (t .1)
+      record { frame = refl; lines = sized .lines; equal = together .lines i; marks = sized .marks })
 
 pub line-law : LineLaw
-line-law m w silent i h cs p =
-    let b = begun m i h w silent in
-    rw (← b .silent) (calls-view m i h (w .unit .frame) w cs p (b .line))
+line-law m w silent i h rs p = law m i h (w .unit .frame) w nothing rs p (begins m i h w silent)

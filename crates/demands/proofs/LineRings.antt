@@ -16,12 +16,7 @@ use Rattle.unit.specs.Sizes.{lengthsFrom, lineLengths, total}
 use Rattle.frame.specs.Lines.{readRows}
 use Rattle.frame.specs.Settle.{putRows, movedBy, allMoved}
 use Rattle.frame.proofs.RowLaws.{Held, total-more}
-use Rattle.demands.specs.LineLaw.{row}
-
--- ring i of those from line j on, which the store holds one after the other
-abbrev pub ringAt : List ℕ → ℕ → ℕ → List Float → List Float
-ringAt ls j zero store = take (getD ls j 0) store
-ringAt ls j (suc i) store = ringAt ls (j + 1) i (drop (getD ls j 0) store)
+use Rattle.lines.specs.Rows.{row, ringAt}
 
 -- the line after i of those from j on is line i of those from j + 1 on
 on : (j i : ℕ) → j + suc i ≡ j + 1 + i

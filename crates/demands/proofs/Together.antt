@@ -2,9 +2,7 @@
 use Prim.Native.Nat.{ℕ, zero, suc, _+_, _%_}
 use mathlib.Core.Path.{_≡_, refl, ap}
 use mathlib.Core.List.{List, [], _∷_}
-use lib.IntN.{ℤ}
 use lib.ListN.{length, getD, replicate}
-use Rattle.samples.specs.declared.Answer.{Answer}
 use Rattle.samples.specs.declared.Samples.{Samples}
 use Rattle.delay.specs.declared.Cursors.{Cursors}
 use Rattle.delay.specs.Calls.{both}
@@ -14,10 +12,15 @@ use Rattle.unit.specs.Model.{Model}
 use Rattle.unit.specs.Sizes.{lineLengths}
 use Rattle.unit.specs.Fresh.{freshHall}
 use Rattle.unit.specs.Judges.{judgedFresh, judgedReset}
-use Rattle.frame.specs.Frame.{Frame}
-use Rattle.frame.specs.Settle.{allMoved, fallen}
-use Rattle.reverb.specs.Whole.{wholeAnswer, wholeUnit, applyFrame, applyCount, tailFrame}
-use Rattle.demands.specs.Runs.{World, Call, fresh, reset, apply, tail, after, run, applyDue, tailDue}
+use Rattle.frame.specs.Settle.{allMoved}
+use Rattle.reverb.specs.Whole.{wholeUnit}
+use Rattle.lines.specs.Rows.{rowsOf}
+use Rattle.turns.specs.Turns.{judgedClose}
+use Rattle.jobs.specs.Close.{nineOfRows, closeUnit}
+use Rattle.demands.specs.Jobs.{Memory}
+use Rattle.demands.specs.Calls.{Call, reset, whole, start, job, close, abandon, answer, after}
+use Rattle.demands.specs.Requests.{Request, fresh, ask, seen, request}
+use Rattle.demands.specs.Runs.{Event, anew, asked, begun, run}
 use Rattle.demands.specs.LineLaw.{Together, CursorsTogether}
 
 -- ---- cursors
@@ -39,38 +42,50 @@ equal-moved f (l ∷ ls) (c ∷ cs) h (suc i) = equal-moved f ls cs (λ j. h (su
 
 -- ---- calls
 
-fresh-together : (m : Model) (w : World) (rate frame : ℕ) → Together (after m w (fresh rate frame) .unit)
-unfolding after
-fresh-together m w rate frame = accept-either Together (judgedFresh m rate frame (length (w .store))) (λ e. begun rate frame) (λ n. begun 8000 4)
+fresh-together : (m : Model) (w : Memory) (rate frame : ℕ) → Together (begun m w rate frame .unit)
+fresh-together m w rate frame = accept-either Together (judgedFresh m rate frame (length (w .store))) (λ e. first rate frame) (λ n. first 8000 4)
   where
-    begun : (rate frame : ℕ) → Together (freshHall m rate frame)
-    begun rate frame = record { lines = equal-fresh (m .lines); passes = equal-fresh (length (m .passes)) }
+    first : (rate frame : ℕ) → Together (freshHall m rate frame)
+    first rate frame = record { lines = equal-fresh (m .lines); passes = equal-fresh (length (m .passes)) }
 
-whole-together : (m : Model) (u : Hall) (due : Answer) (r : Frame) (count : ℤ) → Together u → Together (wholeUnit m u due r count)
-unfolding wholeUnit
-whole-together m u due r count h =
-    accept-either Together (wholeAnswer due r)
-    (λ e. record {
-      lines = equal-moved (u .frame) (lineLengths m (u .frame)) (u .lines) (h .lines);
-      passes = equal-moved (u .frame) (m .passes) (u .passes) (h .passes);
-    })
-    (λ n. h)
+module _ (m : Model) where
+  -- a unit with the cursors of u, or with those moved
+  same : (u v : Hall) → v .lines ≡ u .lines → v .passes ≡ u .passes → Together u → Together v
+  same u v l p h = record { lines = rw l (h .lines); passes = rw p (h .passes) }
 
-call-together : (m : Model) (w : World) (c : Call) → Together (w .unit) → Together (after m w c .unit)
-unfolding after
-call-together m w (fresh rate frame) h = fresh-together m w rate frame
-call-together m w reset h =
-    accept-either Together (judgedReset m (w .unit) (length (w .store))) (λ e. record { lines = h .lines; passes = h .passes }) (λ n. h)
-call-together m w (apply t coefficients input work output) h =
-    whole-together m (w .unit) (applyDue m w t coefficients input work output) (applyFrame m (w .unit) coefficients input (w .store)) (applyCount (w .unit) t) h
-call-together m w (tail work output) h =
-    whole-together m (w .unit) (tailDue m w work output) (tailFrame m (w .unit) (w .store)) (fallen (w .unit .count)) h
+  moved : (u v : Hall) → v .lines ≡ allMoved (u .frame) (lineLengths m (u .frame)) (u .lines) → v .passes ≡ allMoved (u .frame) (m .passes) (u .passes)
+      → Together u → Together v
+  moved u v l p h = record {
+    lines = rw l (equal-moved (u .frame) (lineLengths m (u .frame)) (u .lines) (h .lines));
+    passes = rw p (equal-moved (u .frame) (m .passes) (u .passes) (h .passes));
+  }
 
-run-together : (m : Model) (w : World) (cs : List Call) → Together (w .unit) → Together (run m w cs .unit)
-unfolding run
-run-together m w [] h = h
-run-together m w (c ∷ cs) h = run-together m (after m w c) cs (call-together m w c h)
+  abbrev Of : Memory → Type 0
+  Of v = Together (v .unit)
+
+  call-together : (w : Memory) (c : Call) → Of w → Of (after m w c)
+  unfolding answer after wholeUnit closeUnit
+  call-together w reset h = accept-either Together (judgedReset m (w .unit) (length (w .store))) (λ e. same (w .unit) _ refl refl h) (λ n. h)
+  call-together w (whole p output) h = accept-either Together (answer m w (whole p output)) (λ e. moved (w .unit) _ refl refl h) (λ n. h)
+  call-together w (start p) h = accept-either Of (answer m w (start p)) (λ e. same (w .unit) _ refl refl h) (λ n. h)
+  call-together w (job j) h = accept-either Of (answer m w (job j)) (λ e. same (w .unit) _ refl refl h) (λ n. h)
+  call-together w (close output) h =
+      let u = w .unit in
+      accept-either Together (judgedClose m u (length (w .store)) (length (w .work)) (length output))
+      (λ e. accept-either Together (nineOfRows (u .filters) (rowsOf m (u .frame) (w .work))) (λ q. moved u _ refl refl h) (λ n. same u _ refl refl h))
+      (λ n. h)
+  call-together w abandon h = accept-either Of (answer m w abandon) (λ e. same (w .unit) _ refl refl h) (λ n. h)
+
+  request-together : (w : Memory) (r : Request) → Of w → Of (request m w r)
+  unfolding request
+  request-together w (fresh rate frame s) h = h
+  request-together w (ask c s k) h = call-together (seen w s k) c h
+
+  run-together : (w : Memory) (es : List Event) → Of w → Of (run m w es)
+  unfolding run
+  run-together w [] h = h
+  run-together w (anew rate frame ∷ es) h = run-together (begun m w rate frame) es (fresh-together m w rate frame)
+  run-together w (asked r ∷ es) h = run-together (request m w r) es (request-together w r h)
 
 pub cursors-together : CursorsTogether
-unfolding run
-cursors-together m w rate frame e cs = run-together m (after m w (fresh rate frame)) cs (fresh-together m w rate frame)
+cursors-together m w rate frame e es = run-together m (begun m w rate frame) es (fresh-together m w rate frame)

@@ -1,23 +1,31 @@
--- The demands on the unit, as they are believed.
+-- Demand 1: what is kept is finite.
 use Prim.Native.Nat.{ℕ}
 use mathlib.Core.Path.{_≡_}
-use mathlib.Core.Bool.{true}
-use mathlib.Core.List.{List, _∷_}
+use mathlib.Core.Bool.{true, cond}
+use mathlib.Core.List.{List}
 use lib.ListN.{length}
 use Rattle.samples.specs.declared.Answer.the-variants.{Accepted}
 use Rattle.samples.specs.Search.{allFinite}
+use Rattle.iir.specs.declared.Filter.{Filter}
+use Rattle.unit.specs.Hall.{Hall}
 use Rattle.unit.specs.Model.{Model}
 use Rattle.unit.specs.Judges.{judgedFresh}
 use Rattle.frame.specs.Settle.{filtersFinite}
-use Rattle.demands.specs.Runs.{World, Call, fresh, run}
+use Rattle.demands.specs.Jobs.{Memory}
+use Rattle.demands.specs.Runs.{Event, begun, run}
+
+-- the filters that are kept: with a frame open, those from before it
+abbrev pub keptFilters : Hall → List Filter
+keptFilters u = cond (u .busy) (u .before) (u .filters)
 
 -- every number that is kept is finite
-pub record Kept (w : World) : Type 0 where
+pub record Kept (w : Memory) : Type 0 where
   pub store : allFinite (w .store) ≡ true
-  pub filters : filtersFinite (w .unit .filters) ≡ true
+  pub filters : filtersFinite (keptFilters (w .unit)) ≡ true
 
--- "From an accepted fresh on, every kept number is finite whenever no frame is open"
+-- "From an accepted fresh on, every kept number is finite whenever no frame is open"; and while one is, so are the store and the filters from
+-- before it
 abbrev pub KeptFinite : Type 0
 KeptFinite =
-    (m : Model) (w : World) (rate frame : ℕ) → judgedFresh m rate frame (length (w .store)) ≡ Accepted
-    → (cs : List Call) → Kept (run m w (fresh rate frame ∷ cs))
+    (m : Model) (w : Memory) (rate frame : ℕ) → judgedFresh m rate frame (length (w .store)) ≡ Accepted
+    → (es : List Event) → Kept (run m (begun m w rate frame) es)

@@ -1,5 +1,9 @@
 pub mod Determined
 pub mod Examples
+pub mod Jobs
+pub mod Calls
+pub mod Requests
+pub mod AnyOrder
 pub mod Runs
 pub mod Demands
 pub mod LineLaw

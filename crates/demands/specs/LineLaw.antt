@@ -1,60 +1,82 @@
--- "A line of length L hands out what was put L samples earlier."
-use Prim.Native.Nat.{ℕ, zero, suc, _+_, _<_}
+-- Demand 2: "A line of length L hands out what was put L samples earlier."
+use Prim.Native.Nat.{ℕ, _+_, _<_}
 use mathlib.Core.Path.{_≡_}
-use mathlib.Core.Bool.{Bool, true, false}
+use mathlib.Core.Bool.{true, cond}
 use mathlib.Core.List.{List, [], _∷_, _++_}
+use mathlib.Core.Logic.{_⊎_}
+use lib.Dec.{eqb}
 use lib.Ieee.{Float}
-use lib.ListN.{length, getD, take, drop, replicate}
+use lib.ListN.{length, getD, take, replicate}
 use Rattle.samples.specs.declared.Answer.the-variants.{Accepted}
 use Rattle.samples.specs.Answers.{accept}
 use Rattle.samples.specs.Binary32.{+0}
 use Rattle.delay.specs.Calls.{both}
 use Rattle.unit.specs.Hall.{Hall}
 use Rattle.unit.specs.Model.{Model}
-use Rattle.unit.specs.Judges.{judgedFresh, judgedReset}
+use Rattle.unit.specs.Judges.{judgedFresh}
 use Rattle.unit.specs.Sizes.{Sized}
-use Rattle.frame.specs.Frame.{Frame}
-use Rattle.reverb.specs.Whole.{applyFrame, tailFrame, wholeAnswer}
-use Rattle.demands.specs.Runs.{World, Call, fresh, reset, apply, tail, applyDue, tailDue, after, run}
+use Rattle.lines.specs.Rows.{row, rowsOf}
+use Rattle.jobs.specs.Play.{Play, frameFor}
+use Rattle.demands.specs.Jobs.{Memory, Job, readJob, mixJob, lineJob, outputJob, jobWork}
+use Rattle.demands.specs.Calls.{Call, reset, whole, start, job, close, abandon, answer, after}
+use Rattle.demands.specs.Requests.{Slice, own, Request, fresh, ask, seen, answerOf, request, refusal}
+use Rattle.demands.specs.Runs.{Event, begun, run}
 
--- row i of rows of f samples
-abbrev pub row : ℕ → ℕ → List Float → List Float
-row f zero rows = take f rows
-row f (suc i) rows = row f i (drop f rows)
+-- ---- a line's account
 
--- "applies, tails .. refused ones among them"
-abbrev pub plays : Call → Bool
-plays (fresh rate frame) = false
-plays reset = false
-plays (apply t coefficients input work output) = true
-plays (tail work output) = true
+-- what line i has handed out and what it was given, and the row that it read for the frame now open
+pub record Account : Type 0 where
+  pub out : List Float
+  pub given : List Float
+  pub waiting : List Float
 
-abbrev pub AllPlay : List Call → Type 0
-AllPlay [] = Unit {0}
-AllPlay (c ∷ cs) = (plays c ≡ true) × AllPlay cs
+-- an accepted frame hands out the row read and is given the row put
+abbrev pub turned : Account → List Float → List Float → Account
+turned a read put = record { out = a .out ++ read; given = a .given ++ put; waiting = a .waiting }
 
--- what a call gives, `of` its frame where it is accepted, and nothing where it is refused
-abbrev pub ofFrame : Model → World → (Frame → List Float) → Call → List Float
-ofFrame m w of (fresh rate frame) = []
-ofFrame m w of reset = []
-ofFrame m w of (apply t coefficients input work output) =
-    let r = applyFrame m (w .unit) coefficients input (w .store) in
-    accept (wholeAnswer (applyDue m w t coefficients input work output) r) (of r) []
-ofFrame m w of (tail work output) =
-    let r = tailFrame m (w .unit) (w .store) in
-    accept (wholeAnswer (tailDue m w work output) r) (of r) []
+-- a whole call's rows are its frame's. Of jobs, the row read is what the accepted read i left in the work memory lent to it: it waits, and is
+-- handed out by the accepted close of its frame, or never where the frame is abandoned or answered 9. (No close is accepted before a read i of
+-- its own frame.) The row put is mixed row i of the work memory lent to that close
+unfoldable pub noted : Model → ℕ → Memory → Account → Call → Account
+noted m i w a reset = a
+noted m i w a (whole p output) =
+    let f = w .unit .frame in
+    let r = frameFor m (w .unit) p (w .store) in
+    accept (answer m w (whole p output)) (turned a (row f i (r .reads)) (row f i (r .lines .put))) a
+noted m i w a (start p) = a
+noted m i w a (job (readJob j)) =
+    let f = w .unit .frame in
+    let left = row f i (rowsOf m f (jobWork m w (readJob j)) .reads) in
+    cond (eqb j i) (accept (answer m w (job (readJob j))) (record { out = a .out; given = a .given; waiting = left }) a) a
+noted m i w a (job mixJob) = a
+noted m i w a (job (lineJob j)) = a
+noted m i w a (job outputJob) = a
+noted m i w a (close output) =
+    let f = w .unit .frame in
+    accept (answer m w (close output)) (turned a (a .waiting) (row f i (rowsOf m f (w .work) .mixed))) a
+noted m i w a abandon = a
 
--- the same of a list of calls, joined
-unfoldable pub ofFrames : Model → World → (Frame → List Float) → List Call → List Float
-ofFrames m w of [] = []
-ofFrames m w of (c ∷ cs) = ofFrame m w of c ++ ofFrames m (after m w c) of cs
+-- over a list of requests
+unfoldable pub account : Model → ℕ → Memory → Account → List Request → Account
+account m i w a [] = a
+account m i w a (fresh rate frame s ∷ rs) = account m i (request m w (fresh rate frame s)) a rs
+account m i w a (ask c s k ∷ rs) = account m i (request m w (ask c s k)) (noted m i (seen w s k) a c) rs
 
--- what line i handed out, the rows read, and what it was given, the rows put
-abbrev pub handedOut : Model → World → ℕ → List Call → List Float
-handedOut m w i cs = ofFrames m w (λ r. row (w .unit .frame) i (r .reads)) cs
+-- ---- the calls that the law is of
 
-abbrev pub givenTo : Model → World → ℕ → List Call → List Float
-givenTo m w i cs = ofFrames m w (λ r. row (w .unit .frame) i (r .lines .put)) cs
+-- the calls of frames, each with any work memory. Whole calls, reads and closes are lent the unit's own store: a read hands out what the store
+-- lent to it holds, and what is put into another store doesn't come out of this one
+pub data Plays : Request → Type 0 where
+  plays-whole : (p : Play) (output : List Float) (k : Slice) → Plays (ask (whole p output) own k)
+  plays-start : (p : Play) (s k : Slice) → Plays (ask (start p) s k)
+  plays-job : (j : Job) (k : Slice) → Plays (ask (job j) own k)
+  plays-close : (output : List Float) (k : Slice) → Plays (ask (close output) own k)
+  plays-abandon : (s k : Slice) → Plays (ask abandon s k)
+
+-- or any call at all that is refused
+unfoldable pub AllPlay : Model → Memory → List Request → Type 0
+AllPlay m w [] = Unit {0}
+AllPlay m w (r ∷ rs) = (Plays r ⊎ (refusal (answerOf m w r) ≡ true)) × AllPlay m (request m w r) rs
 
 -- both cursors of every ring are equal
 pub record Together (u : Hall) : Type 0 where
@@ -62,19 +84,19 @@ pub record Together (u : Hall) : Type 0 where
   pub passes : (i : ℕ) → getD (u .passes) i (both 0) .read ≡ getD (u .passes) i (both 0) .write
 
 -- a unit in which no sound is left: after an accepted fresh, or after an accepted reset with the cursors equal
-pub data Silent (m : Model) : World → Type 0 where
-  freshly : (w : World) (rate frame : ℕ) → judgedFresh m rate frame (length (w .store)) ≡ Accepted → Silent m (after m w (fresh rate frame))
-  by-reset : (w : World) → Sized m (w .unit) → judgedReset m (w .unit) (length (w .store)) ≡ Accepted → Together (w .unit) → Silent m (after m w reset)
+pub data Silent (m : Model) : Memory → Type 0 where
+  freshly : (w : Memory) (rate frame : ℕ) → judgedFresh m rate frame (length (w .store)) ≡ Accepted → Silent m (begun m w rate frame)
+  by-reset : (w : Memory) → Sized m (w .unit) → answer m w reset ≡ Accepted → Together (w .unit) → Silent m (after m w reset)
 
 -- sample t of what line i hands out is sample t - L of what it was given, or +0 where t < L
 abbrev pub LineLaw : Type 0
 LineLaw =
-    (m : Model) (w : World) → Silent m w → (i : ℕ) → i < m .lines → (cs : List Call) → AllPlay cs
-    → let given = givenTo m w i cs in
-    handedOut m w i cs ≡ take (length given) (replicate (m .delay i + w .unit .frame) +0 ++ given)
+    (m : Model) (w : Memory) → Silent m w → (i : ℕ) → i < m .lines → (rs : List Request) → AllPlay m w rs
+    → let a = account m i w (record { out = []; given = []; waiting = [] }) rs in
+    a .out ≡ take (length (a .given)) (replicate (m .delay i + w .unit .frame) +0 ++ a .given)
 
 -- in every state that calls lead to from an accepted fresh
 abbrev pub CursorsTogether : Type 0
 CursorsTogether =
-    (m : Model) (w : World) (rate frame : ℕ) → judgedFresh m rate frame (length (w .store)) ≡ Accepted
-    → (cs : List Call) → Together (run m w (fresh rate frame ∷ cs) .unit)
+    (m : Model) (w : Memory) (rate frame : ℕ) → judgedFresh m rate frame (length (w .store)) ≡ Accepted
+    → (es : List Event) → Together (run m (begun m w rate frame) es .unit)

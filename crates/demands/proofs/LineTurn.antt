@@ -1,0 +1,139 @@
+-- One turn of a line's ring: an accepted frame takes the row read off the front of its view, the ring as it lies from the cursor on, and joins
+-- the row put to its end. And what a read job leaves in the work memory is that row. Assumes nothing.
+use Prim.Native.Nat.{ℕ, zero, suc, _+_, _*_, _%_, _<_, _≤_}
+use mathlib.Core.Path.{_≡_, sym, ap, _∙_}
+use mathlib.Core.List.{List, _++_}
+use native.Mathlib.Nat.{zero-add, suc-mul, add-mul, not-suc-le-zero}
+use native.Mathlib.Omega.{arith}
+use lib.Ieee.{Float}
+use lib.ListN.{length, getD, take, drop, length-append, length-take, length-drop}
+use lib.Seq.{take-at, drop-at}
+use Rattle.samples.specs.declared.Samples.{Samples}
+use Rattle.delay.specs.declared.Cursors.{Cursors}
+use Rattle.delay.specs.Calls.{both}
+use Rattle.delay.specs.Ring.{rotl, wrap}
+use Rattle.delay.proofs.Laws.{wrap-mod, read-view, length-rotl, length-read, turn-view}
+use Rattle.unit.specs.Hall.{Hall}
+use Rattle.unit.specs.Model.{Model}
+use Rattle.unit.specs.Sizes.{lineLengths, storeLen, workLen}
+use Rattle.frame.specs.Settle.{putRows, movedBy, allMoved}
+use Rattle.frame.proofs.RowLaws.{Held}
+use Rattle.lines.specs.Rows.{row, setRow, ringAt, Rows, rowsOf}
+use Rattle.jobs.specs.Steps.{readRow, readWork}
+use Rattle.demands.proofs.Lent.{Lent, cursors, within}
+use Rattle.demands.proofs.LineRings.{row-long, ring-long, put-row, lines-long, line-length, lines-held}
+use Rattle.demands.proofs.LineRings.{moved-at}
+use Rattle.demands.proofs.AnyOrderWork.{Long, cut-joined}
+
+-- ---- views
+
+-- what is handed out is taken off the front of a view, and as much that is given is joined to its end
+pub record Turn (old new out given : List Float) : Type 0 where
+  pub fits : length given ≤ length old
+  pub taken : out ≡ take (length given) old
+  pub then : new ≡ drop (length given) old ++ given
+
+-- line i's ring as it lies from the read cursor on
+abbrev pub view : Model → ℕ → ℕ → List Cursors → List Float → List Float
+view m i f cs store = rotl (getD cs i (both 0) .read .0) (ringAt (lineLengths m f) 0 i store)
+
+module _ (m : Model) (i : ℕ) (h : i < m .lines) (u : Hall) (store : List Float) (lent : Lent m u (length store)) where
+  abbrev f : ℕ
+  f = u .frame
+
+  abbrev ls : List ℕ
+  ls = lineLengths m f
+
+  abbrev ring : List Float
+  ring = ringAt ls 0 i store
+
+  abbrev k : ℕ
+  k = cursors u i .read .0
+
+  pub held : Held f (m .lines) 0 ls (length store)
+  unfolding storeLen
+  held = lines-held m f (length store) (omega (arith, lent .long))
+
+  length-is : getD ls i 0 ≡ m .delay i + f
+  length-is = line-length m f i h
+
+  ring-is : length ring ≡ m .delay i + f
+  ring-is = ring-long f ls (m .lines) 0 i store h held ∙ rw zero-add length-is
+
+  pub read-long : length (readRow m u i store) ≡ f
+  read-long = length-read ring k f (omega (arith, ring-is))
+
+  -- ---- a frame that puts the rows `rows`
+
+  module _ (lines : length (u .lines) ≡ m .lines) where
+    moved : getD (allMoved f ls (u .lines)) i (both 0) ≡ movedBy f (getD ls i 0) (cursors u i)
+    moved = moved-at f ls (u .lines) i (omega (arith, lines-long m f)) (omega arith)
+
+    pub equal-moved : cursors u i .read ≡ cursors u i .write
+        → getD (allMoved f ls (u .lines)) i (both 0) .read ≡ getD (allMoved f ls (u .lines)) i (both 0) .write
+    equal-moved e = rw moved (ap (λ (c : Samples). record { 0 = (c .0 + f) % getD ls i 0 }) e)
+
+    pub ring-turn : cursors u i .read ≡ cursors u i .write → (rows rings : List Float) → length rows ≡ m .lines * f
+        → Turn (view m i f (u .lines) store) (view m i f (allMoved f ls (u .lines)) (putRows f (m .lines) 0 ls (u .lines) rows rings store))
+        (readRow m u i store) (row f i rows)
+    ring-turn equal rows rings e =
+        let l : ℕ = m .delay i + f in
+        let put = row f i rows in
+        let near : k < l = within m u i (lent .range) (omega arith) in
+        let lp : length put ≡ f = row-long f (m .lines) i rows h e in
+        let on : (k + f) % l ≡ wrap (length ring) (k + length put) = rw (ring-is, lp) (sym (wrap-mod l (k + f) (omega arith))) in
+        record {
+          fits = rw (length-rotl, ring-is, lp) (omega arith);
+          taken = rw lp (read-view ring k f);
+          then =
+              rw (moved, length-is, on, put-row f ls (u .lines) (m .lines) 0 i rows rings store h held, zero-add, ← equal)
+              (turn-view ring put k (omega (arith, ring-is)) (omega (arith, ring-is)));
+        }
+
+-- ---- rows of the work memory
+
+-- a row that is set, in n rows of f
+row-set : (f n i : ℕ) (r xs : List Float) → i < n → length xs ≡ n * f → length r ≡ f
+    → (row f i (setRow f i r xs) ≡ r) × (length (setRow f i r xs) ≡ n * f)
+unfolding setRow
+row-set f zero i r xs h e l = absurd (not-suc-le-zero h)
+row-set f (suc n) zero r xs h e l = (take-at r (drop f xs) f l, simp (length-append, length-drop) (omega (arith, suc-mul n f)))
+row-set f (suc n) (suc i) r xs h e l =
+    let first : length (take f xs) ≡ f = simp length-take (omega (arith, suc-mul n f)) in
+    let rest = row-set f n i r (drop f xs) (omega arith) (simp length-drop (omega (arith, suc-mul n f))) l in (
+      rw (drop-at (take f xs) (setRow f i r (drop f xs)) f first) (rest .0),
+      length-append (take f xs) (setRow f i r (drop f xs)) ∙ omega (arith, first, rest .1, suc-mul n f),
+    )
+
+-- a work memory as long as it is to be
+pub work-rows : (m : Model) (f : ℕ) (work : List Float) → length work ≡ workLen m f → Long m f (rowsOf m f work)
+unfolding rowsOf workLen
+work-rows m f work e =
+    let a = add-mul (m .lines + m .lines) 2 f in
+    let b = add-mul (m .lines) (m .lines) f in
+    record {
+      input = simp length-take (omega arith);
+      reads = simp (length-take, length-drop) (omega arith);
+      mixed = simp (length-take, length-drop) (omega arith);
+      output = simp (length-take, length-drop) (omega arith);
+    }
+
+-- what a read of line i leaves there
+pub read-left : (m : Model) (u : Hall) (i : ℕ) (store work : List Float) → i < m .lines → length work ≡ workLen m (u .frame)
+    → length (readRow m u i store) ≡ u .frame
+    → row (u .frame) i (rowsOf m (u .frame) (readWork m u i store work) .reads) ≡ readRow m u i store
+unfolding readWork
+read-left m u i store work h e l =
+    let f : ℕ = u .frame in
+    let r = rowsOf m f work in
+    let long = work-rows m f work e in
+    let s = row-set f (m .lines) i (readRow m u i store) (r .reads) h (long .reads) l in
+    let set : Rows = record {
+      input = r .input;
+      reads = setRow f i (readRow m u i store) (r .reads);
+      mixed = r .mixed;
+      output = r .output;
+      rings = r .rings;
+    } in
+    let cut = cut-joined m f set (record { input = long .input; reads = s .1; mixed = long .mixed; output = long .output }) in
+    ap (λ (x : Rows). row f i (x .reads)) cut ∙ s .0
