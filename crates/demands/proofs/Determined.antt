@@ -149,6 +149,38 @@ use Rattle.reverb.proofs.apply.Kinds as reverb-apply-kinds
 use Rattle.reverb.proofs.apply.Reads as reverb-apply-reads
 use Rattle.reverb.proofs.tail.Kinds as reverb-tail-kinds
 use Rattle.reverb.proofs.tail.Reads as reverb-tail-reads
+use Rattle.unit.proofs.lent_ok.Kinds as unit-lent-ok-kinds
+use Rattle.unit.proofs.lent_ok.Reads as unit-lent-ok-reads
+use Rattle.unit.proofs.or_else.Kinds as unit-or-else-kinds
+use Rattle.unit.proofs.or_else.Reads as unit-or-else-reads
+use Rattle.turns.proofs.judge_open_apply.Kinds as turns-judge-open-apply-kinds
+use Rattle.turns.proofs.judge_open_apply.Reads as turns-judge-open-apply-reads
+use Rattle.turns.proofs.judge_open_tail.Kinds as turns-judge-open-tail-kinds
+use Rattle.turns.proofs.judge_open_tail.Reads as turns-judge-open-tail-reads
+use Rattle.turns.proofs.judge_read.Kinds as turns-judge-read-kinds
+use Rattle.turns.proofs.judge_read.Reads as turns-judge-read-reads
+use Rattle.turns.proofs.judge_mix.Kinds as turns-judge-mix-kinds
+use Rattle.turns.proofs.judge_mix.Reads as turns-judge-mix-reads
+use Rattle.turns.proofs.judge_line.Kinds as turns-judge-line-kinds
+use Rattle.turns.proofs.judge_line.Reads as turns-judge-line-reads
+use Rattle.turns.proofs.judge_output.Kinds as turns-judge-output-kinds
+use Rattle.turns.proofs.judge_output.Reads as turns-judge-output-reads
+use Rattle.turns.proofs.judge_close.Kinds as turns-judge-close-kinds
+use Rattle.turns.proofs.judge_close.Reads as turns-judge-close-reads
+use Rattle.turns.proofs.judge_abandon.Kinds as turns-judge-abandon-kinds
+use Rattle.turns.proofs.judge_abandon.Reads as turns-judge-abandon-reads
+use Rattle.lines.proofs.close_frame.Kinds as lines-close-frame-kinds
+use Rattle.lines.proofs.close_frame.Reads as lines-close-frame-reads
+use Rattle.lines.proofs.make_output.Kinds as lines-make-output-kinds
+use Rattle.lines.proofs.make_output.Reads as lines-make-output-reads
+use Rattle.reverb.proofs.quiet.Kinds as reverb-quiet-kinds
+use Rattle.reverb.proofs.quiet.Reads as reverb-quiet-reads
+use Rattle.reverb.proofs.fallen.Kinds as reverb-fallen-kinds
+use Rattle.reverb.proofs.fallen.Reads as reverb-fallen-reads
+use Rattle.jobs.proofs.close.Kinds as jobs-close-kinds
+use Rattle.jobs.proofs.close.Reads as jobs-close-reads
+use Rattle.jobs.proofs.abandon.Kinds as jobs-abandon-kinds
+use Rattle.jobs.proofs.abandon.Reads as jobs-abandon-reads
 
 -- ---- samples
 
@@ -402,6 +434,12 @@ unit-store-ok κs a x y s t p q = p ∙ sym (q)
 pub unit-work-ok : OneResult 0 unit-work-ok-kinds.ps unit-work-ok-kinds.r unit-work-ok-reads.Post
 unit-work-ok κs a x y s t p q = p ∙ sym (q)
 
+pub unit-lent-ok : OneResult 0 unit-lent-ok-kinds.ps unit-lent-ok-kinds.r unit-lent-ok-reads.Post
+unit-lent-ok κs a x y s t p q = p ∙ sym (q)
+
+pub unit-or-else : OneResult 0 unit-or-else-kinds.ps unit-or-else-kinds.r unit-or-else-reads.Post
+unit-or-else κs a x y s t p q = p ∙ sym (q)
+
 -- ---- frame
 
 pub frame-pass-stage-w : OneExit 1 frame-pass-stage-kinds.ps frame-pass-stage-kinds.r frame-pass-stage-reads.Post (λ κs s. s .0 .now)
@@ -435,6 +473,24 @@ lines-run-frame-work κs a x y s t p q = p .1 .1 .0 ∙ sym (q .1 .1 .0)
 
 pub lines-run-frame-output : OneExit 3 lines-run-frame-kinds.ps lines-run-frame-kinds.r lines-run-frame-reads.Post (λ κs s. s .1 .1 .1 .1 .1 .1 .1 .0 .now)
 lines-run-frame-output κs a x y s t p q = p .1 .1 .1 ∙ sym (q .1 .1 .1)
+
+pub lines-close-frame : OneResult 3 lines-close-frame-kinds.ps lines-close-frame-kinds.r lines-close-frame-reads.Post
+lines-close-frame κs a x y s t p q = p .0 ∙ sym (q .0)
+
+pub lines-close-frame-store : OneExit 3 lines-close-frame-kinds.ps lines-close-frame-kinds.r lines-close-frame-reads.Post (λ κs s. s .1 .1 .1 .1 .0 .now)
+lines-close-frame-store κs a x y s t p q = p .1 .0 ∙ sym (q .1 .0)
+
+pub lines-close-frame-work : OneExit 3 lines-close-frame-kinds.ps lines-close-frame-kinds.r lines-close-frame-reads.Post (λ κs s. s .1 .1 .1 .1 .1 .0 .now)
+lines-close-frame-work κs a x y s t p q = p .1 .1 .0 ∙ sym (q .1 .1 .0)
+
+pub lines-close-frame-output : OneExit 3 lines-close-frame-kinds.ps lines-close-frame-kinds.r lines-close-frame-reads.Post (λ κs s. s .1 .1 .1 .1 .1 .1 .0 .now)
+lines-close-frame-output κs a x y s t p q = p .1 .1 .1 ∙ sym (q .1 .1 .1)
+
+pub lines-make-output : OneResult 1 lines-make-output-kinds.ps lines-make-output-kinds.r lines-make-output-reads.Post
+lines-make-output κs a x y s t p q = p .0 ∙ sym (q .0)
+
+pub lines-make-output-work : OneExit 1 lines-make-output-kinds.ps lines-make-output-kinds.r lines-make-output-reads.Post (λ κs s. s .1 .1 .1 .0 .now)
+lines-make-output-work κs a x y s t p q = p .1 ∙ sym (q .1)
 
 -- ---- reverb
 
@@ -473,3 +529,55 @@ reverb-tail-work κs a x y s t p q = p .1 .1 .0 ∙ sym (q .1 .1 .0)
 
 pub reverb-tail-output : OneExit 3 reverb-tail-kinds.ps reverb-tail-kinds.r reverb-tail-reads.Post (λ κs s. s .1 .1 .1 .0 .now)
 reverb-tail-output κs a x y s t p q = p .1 .1 .1 ∙ sym (q .1 .1 .1)
+
+pub reverb-quiet : OneResult 0 reverb-quiet-kinds.ps reverb-quiet-kinds.r reverb-quiet-reads.Post
+reverb-quiet κs a x y s t p q = p ∙ sym (q)
+
+pub reverb-fallen : OneResult 0 reverb-fallen-kinds.ps reverb-fallen-kinds.r reverb-fallen-reads.Post
+reverb-fallen κs a x y s t p q = p ∙ sym (q)
+
+-- ---- turns
+
+pub turns-judge-open-apply : OneResult 2 turns-judge-open-apply-kinds.ps turns-judge-open-apply-kinds.r turns-judge-open-apply-reads.Post
+turns-judge-open-apply κs a x y s t p q = p ∙ sym (q)
+
+pub turns-judge-open-tail : OneResult 0 turns-judge-open-tail-kinds.ps turns-judge-open-tail-kinds.r turns-judge-open-tail-reads.Post
+turns-judge-open-tail κs a x y s t p q = p ∙ sym (q)
+
+pub turns-judge-read : OneResult 0 turns-judge-read-kinds.ps turns-judge-read-kinds.r turns-judge-read-reads.Post
+turns-judge-read κs a x y s t p q = p ∙ sym (q)
+
+pub turns-judge-mix : OneResult 0 turns-judge-mix-kinds.ps turns-judge-mix-kinds.r turns-judge-mix-reads.Post
+turns-judge-mix κs a x y s t p q = p ∙ sym (q)
+
+pub turns-judge-line : OneResult 0 turns-judge-line-kinds.ps turns-judge-line-kinds.r turns-judge-line-reads.Post
+turns-judge-line κs a x y s t p q = p ∙ sym (q)
+
+pub turns-judge-output : OneResult 0 turns-judge-output-kinds.ps turns-judge-output-kinds.r turns-judge-output-reads.Post
+turns-judge-output κs a x y s t p q = p ∙ sym (q)
+
+pub turns-judge-close : OneResult 0 turns-judge-close-kinds.ps turns-judge-close-kinds.r turns-judge-close-reads.Post
+turns-judge-close κs a x y s t p q = p ∙ sym (q)
+
+pub turns-judge-abandon : OneResult 0 turns-judge-abandon-kinds.ps turns-judge-abandon-kinds.r turns-judge-abandon-reads.Post
+turns-judge-abandon κs a x y s t p q = p ∙ sym (q)
+
+-- ---- jobs
+
+pub jobs-close : OneResult 3 jobs-close-kinds.ps jobs-close-kinds.r jobs-close-reads.Post
+jobs-close κs a x y s t p q = p .0 ∙ sym (q .0)
+
+pub jobs-close-store : OneExit 3 jobs-close-kinds.ps jobs-close-kinds.r jobs-close-reads.Post (λ κs s. s .1 .0 .now)
+jobs-close-store κs a x y s t p q = p .1 .0 ∙ sym (q .1 .0)
+
+pub jobs-close-work : OneExit 3 jobs-close-kinds.ps jobs-close-kinds.r jobs-close-reads.Post (λ κs s. s .1 .1 .0 .now)
+jobs-close-work κs a x y s t p q = p .1 .1 .0 ∙ sym (q .1 .1 .0)
+
+pub jobs-close-output : OneExit 3 jobs-close-kinds.ps jobs-close-kinds.r jobs-close-reads.Post (λ κs s. s .1 .1 .1 .0 .now)
+jobs-close-output κs a x y s t p q = p .1 .1 .1 ∙ sym (q .1 .1 .1)
+
+pub jobs-abandon : OneResult 1 jobs-abandon-kinds.ps jobs-abandon-kinds.r jobs-abandon-reads.Post
+jobs-abandon κs a x y s t p q = p .0 ∙ sym (q .0)
+
+pub jobs-abandon-work : OneExit 1 jobs-abandon-kinds.ps jobs-abandon-kinds.r jobs-abandon-reads.Post (λ κs s. s .1 .0 .now)
+jobs-abandon-work κs a x y s t p q = p .1 ∙ sym (q .1)
