@@ -22,7 +22,7 @@ use Rattle.frame.specs.Frame.{Frame, frameFrom, passesIn, lineRows, newFilters}
 use Rattle.turns.specs.Marks.{mixMark, lineMark, outputMark, allDone}
 use Rattle.lines.specs.Rows.{row, setRow, Rows, rowsOf, joined}
 use Rattle.jobs.specs.Play.{openWork}
-use Rattle.jobs.specs.Steps.{readRow, lineRow, outputOf, readWork, mixWork, lineWork, lineFilters, outputWork, outputFilters}
+use Rattle.jobs.specs.Steps.{readRow, lineRow, outputOf, readWork, mixLaid, mixWork, lineWork, lineFilters, outputWork, outputFilters}
 use Rattle.demands.proofs.LineRings.{read-row}
 use Rattle.demands.proofs.AnyOrderRows.{stacked, stacked-same, length-stacked, stacked-rows, stacked-all, row-stacked, row-of, set-stacked, set-of, over-row, over-end, next-row}
 use Rattle.demands.proofs.AnyOrderFrame.{put-row, filters-row, three-row, output-asks, tone-long}
@@ -136,7 +136,7 @@ module _ (m : Model) (o : Opening) (h : Fit m o) (marks : List Bool) where
           rw (set-here marks (mixMark m) (omega (arith, g .long)), set-there marks (mixMark m) (lineMark m i) (mix-there i b), unmarked) refl)
 
       pub mix-work : mixWork m (unitAt m o marks) (joined (rowsAt m o marks)) ≡ joined (rowsAt m o (set marks (mixMark m) true))
-      unfolding mixWork
+      unfolding mixLaid
       mix-work =
           (λ t. joined (record {
             input = cut m o h marks t .input;

@@ -1,6 +1,6 @@
 -- Close: "after all 34; puts, writes the output, moves the cursors, sets the count; nothing before it does any of these". And what a 9 and an
 -- abandon leave.
-use mathlib.Core.Bool.{Bool, false, _&&_}
+use mathlib.Core.Bool.{false}
 use mathlib.Core.List.{List}
 use lib.Ieee.{Float}
 use lib.IntN.{ℤ, pos}
@@ -9,7 +9,6 @@ use Rattle.samples.specs.declared.Answer.{Answer}
 use Rattle.samples.specs.declared.Answer.the-variants.{Accepted, NotFinite}
 use Rattle.samples.specs.Answers.{need, accept, orElse}
 use Rattle.samples.specs.Binary32.{+0}
-use Rattle.samples.specs.Search.{allFinite}
 use Rattle.audio_buffer.specs.declared.AudioEffectState.{AudioEffectState}
 use Rattle.audio_buffer.specs.declared.AudioEffectState.the-variants.{TailComplete}
 use Rattle.audio_buffer.specs.Verdict.{verdictOf}
@@ -19,7 +18,7 @@ use Rattle.unit.specs.Hall.{Hall}
 use Rattle.unit.specs.Model.{Model}
 use Rattle.unit.specs.Sizes.{lineLengths, filtersLen, jobsLen}
 use Rattle.unit.specs.Fresh.{blank}
-use Rattle.frame.specs.Settle.{filtersFinite, putRows, allMoved}
+use Rattle.frame.specs.Settle.{putRows, allMoved}
 use Rattle.lines.specs.Rows.{Rows}
 use Rattle.lines.specs.Parts.{rowsFinite}
 

@@ -34,10 +34,13 @@ readWork m u i store work =
     laid (r .input) (setRow (u .frame) i (readRow m u i store) (r .reads)) (r .mixed) (r .output) (r .rings)
 
 -- step 3: "Mix sample by sample."
-unfoldable pub mixWork : Model → Hall → List Float → List Float
-mixWork m u work =
-    let r = rowsOf m (u .frame) work in
-    laid (r .input) (r .reads) (mixedRows (m .lines) (u .frame) (m .factor) (r .reads)) (r .output) (r .rings)
+unfoldable pub mixLaid : Model → ℕ → List Float → List Float
+mixLaid m f work =
+    let r = rowsOf m f work in
+    laid (r .input) (r .reads) (mixedRows (m .lines) f (m .factor) (r .reads)) (r .output) (r .rings)
+
+abbrev pub mixWork : Model → Hall → List Float → List Float
+mixWork m u work = mixLaid m (u .frame) work
 
 -- step 4 of line i, "bands and input, no put": its three filters are those from 3 i on, and a tail adds no input
 abbrev pub lineRow : Hall → ℕ → Rows → List Float

@@ -3,16 +3,22 @@
 // Its contracts cite `specs/`: what is held for an open frame, what each job leaves of its own rows
 // and filters, and what a close and an abandon leave.
 mod ends;
+mod steps;
 
 use crate::ends::concluded;
 use crate::ends::shut;
+use crate::steps::marked;
+use crate::steps::mix_rows;
 use lines::close_frame;
+use lines::make_output;
 use reverb::Outcome;
 use reverb::quiet;
 use samples::clear;
 use samples::is_accepted;
 use turns::judge_abandon;
 use turns::judge_close;
+use turns::judge_mix;
+use turns::judge_output;
 use unit::State;
 ghost use mathlib.Core.Path.{_≡_};
 ghost use lib.ListN.{length};
@@ -20,10 +26,43 @@ ghost use Rattle.samples.specs.Answers.{accept};
 ghost use Rattle.audio_buffer.specs.declared.AudioEffectState.the-variants.{TailComplete};
 ghost use Rattle.unit.specs.Hall.{ofState};
 ghost use Rattle.unit.specs.Model.{wall};
-ghost use Rattle.turns.specs.Turns.{judgedClose, judgedAbandon};
+ghost use Rattle.turns.specs.Marks.{mixMark, outputMark};
+ghost use Rattle.turns.specs.Turns.{judgedMix, judgedOutput, judgedClose, judgedAbandon};
 ghost use Rattle.lines.specs.Rows.{rowsOf};
 ghost use Rattle.reverb.specs.Whole.{outcome};
+ghost use Rattle.jobs.specs.Steps.{markedUnit, mixWork, outputWork, outputFilters};
 ghost use Rattle.jobs.specs.Close.{shut, cleared, closeAnswer, closeUnit, closeStore, closeWork, closeOutput, closeVerdict};
+
+// Mixes the lines read.
+pub fn job_mix(s: State, work: &mut [f32]) -> Outcome
+    ensures { λ r. ⌜ r ≡ outcome (judgedMix wall (ofState s) (length (now (work .entry)))) (accept (judgedMix wall (ofState s) (length (now (work .entry)))) (markedUnit (ofState s) (mixMark wall) (s .filters)) (ofState s)) TailComplete ⌝ }
+    ensures { λ _. ⌜ now (work .exit) ≡ accept (judgedMix wall (ofState s) (length (now (work .entry)))) (mixWork wall (ofState s) (now (work .entry))) (now (work .entry)) ⌝ }
+{
+    let answer = judge_mix(s, work.len());
+    if !is_accepted(answer) {
+        return quiet(answer, s);
+    }
+    let f = s.frame;
+    let fs = s.filters;
+    mix_rows(f, work);
+    quiet(answer, marked(s, 16, fs))
+}
+
+// Makes the output of the lines read.
+pub fn job_output(s: State, work: &mut [f32]) -> Outcome
+    ensures { λ r. ⌜ r ≡ outcome (judgedOutput wall (ofState s) (length (now (work .entry)))) (accept (judgedOutput wall (ofState s) (length (now (work .entry)))) (markedUnit (ofState s) (outputMark wall) (outputFilters wall (ofState s) (now (work .entry)))) (ofState s)) TailComplete ⌝ }
+    ensures { λ _. ⌜ now (work .exit) ≡ accept (judgedOutput wall (ofState s) (length (now (work .entry)))) (outputWork wall (ofState s) (now (work .entry))) (now (work .entry)) ⌝ }
+{
+    let answer = judge_output(s, work.len());
+    if !is_accepted(answer) {
+        return quiet(answer, s);
+    }
+    let f = s.frame;
+    let qs = s.passes;
+    let fs = s.filters;
+    let gs = make_output(f, qs, fs, work);
+    quiet(answer, marked(s, 33, gs))
+}
 
 // Ends a frame of which every job is done: puts its rows into the lines, writes the output, moves the
 // cursors and sets the count, unless a number of it isn't finite.

@@ -1,4 +1,4 @@
--- The work memory by its rows. Assumes nothing.
+-- The work memory of the wall unit by its rows. Assumes nothing.
 use mathlib.Core.Path.{_≡_, refl, sym, ap, _∙_}
 use mathlib.Core.Bool.{Bool, true, _&&_, cond}
 use mathlib.Core.List.{List, _++_, append-assoc}
@@ -38,6 +38,13 @@ module _ (f : ℕ) (w : List Float) where
       sym (take-append-drop k (drop (f + k) w))
       ∙ ap (λ (l : List Float). take k (drop (f + k) w) ++ l)
       (drop-drop k (f + k) w ∙ sym (take-append-drop f (drop (f + k + k) w)) ∙ ap (λ (l : List Float). take f (drop (f + k + k) w) ++ l) (drop-drop f (f + k + k) w))
+
+  -- all of it
+  pub all-rows : w ≡ take f w ++ (take k (drop f w) ++ (take k (drop (f + k) w) ++ (take f (drop (f + k + k) w) ++ drop (f + k + k + f) w)))
+  all-rows =
+      sym (take-append-drop f w)
+      ∙ ap (λ (l : List Float). take f w ++ l)
+      (sym (take-append-drop k (drop f w)) ∙ ap (λ (l : List Float). take k (drop f w) ++ l) (drop-drop k f w ∙ from-mixed))
 
   -- what is judged of them
   pub judged-rows : (fs : List Filter) → (filtersFinite fs && allFinite (drop (f + k) w)) ≡ rowsFinite fs (rowsOf wall f w)

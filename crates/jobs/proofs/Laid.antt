@@ -1,0 +1,75 @@
+-- What a job leaves of the work memory: its own rows anew, and all others as they were. Assumes nothing.
+use mathlib.Core.Path.{_≡_, refl, sym, ap, _∙_}
+use mathlib.Core.Bool.{Bool, true}
+use mathlib.Core.List.{List, _++_, append-assoc}
+use Prim.Native.Nat.{ℕ, _+_, _*_, _-_}
+use native.Mathlib.Omega.{arith}
+use lib.Ieee.{Float}
+use lib.ListN.{length, take, drop, length-append, length-take, length-drop}
+use lib.Seq.{length-take-le}
+use borrow.Rule.Slice.PartMut.{putMid}
+use Rattle.samples.specs.declared.Answer.{Answer}
+use Rattle.samples.specs.declared.Answer.the-variants.{Accepted}
+use Rattle.samples.specs.Answers.{accept}
+use Rattle.samples.specs.Sizes.{rateOk, frameOk}
+use Rattle.samples.proofs.Laws.{split-and, join-and}
+use Rattle.samples.proofs.Turns.{middle}
+use Rattle.hadamard.specs.Rows.{judgedRows, rowsMixed, mixedRows}
+use Rattle.hadamard.proofs.Laws.{rows-accepted, rows-joined}
+use Rattle.iir.specs.declared.Filter.{Filter}
+use Rattle.unit.specs.Hall.{Hall}
+use Rattle.unit.specs.Model.{wall}
+use Rattle.unit.specs.Judges.{workOk}
+use Rattle.lines.specs.Work.{OutputFits}
+use Rattle.lines.specs.Rows.{rowsOf, joined}
+use Rattle.lines.specs.Parts.{workFor, outputLaid, outputEnds}
+use Rattle.lines.proofs.RowsOf.{all-rows}
+use Rattle.reverb.proofs.Fits.{Due}
+use Rattle.jobs.specs.Steps.{mixLaid, outputWork, outputFilters}
+
+-- an accepted job's work memory is one of its unit's frames
+pub work-for : (u : Hall) (work : ℕ) → Due u (workOk wall u work) → workFor wall (u .frame) work ≡ true
+work-for u work d = join-and (split-and (rateOk (u .rate)) (frameOk (u .frame)) (d .sizes) .1) (d .lent)
+
+module _ (f : ℕ) (w : List Float) (h : OutputFits wall f (length w)) where
+  abbrev k : ℕ
+  k = 16 * f
+
+  abbrev reads : List Float
+  reads = take k (drop f w)
+
+  abbrev mixed : List Float
+  mixed = take k (drop (f + k) w)
+
+  abbrev rest : List Float
+  rest = take f (drop (f + k + k) w) ++ drop (f + k + k + f) w
+
+  length-reads : length reads ≡ k
+  length-reads = simp (length-take, length-drop) (omega (arith, h .work-is))
+
+  length-mixed : length mixed ≡ k
+  length-mixed = simp (length-take, length-drop) (omega (arith, h .work-is))
+
+  -- the mix is lent the rows read and mixed
+  pub mix-laid : (x : List Float) (a : Answer)
+      → let v = take (33 * f - f) (drop f w) in
+      (a ≡ judgedRows 16 (length v)) × (x ≡ accept a (rowsMixed 16 (wall .factor) v) v) → putMid f (33 * f - f) w x ≡ mixLaid wall f w
+  unfolding mixLaid rowsOf joined
+  mix-laid x a e =
+      let all : w ≡ take f w ++ ((reads ++ mixed) ++ rest) = all-rows f w ∙ ap (λ (l : List Float). take f w ++ l) (sym (append-assoc reads mixed rest)) in
+      let both : length (reads ++ mixed) ≡ k + k = length-append reads mixed ∙ (λ i. length-reads i + length-mixed i) in
+      let m = middle f (33 * f) (take f w) (reads ++ mixed) rest w all (length-take-le f w (omega (arith, h .work-is))) (omega (arith, both)) in
+      let ok : a ≡ Accepted = e .0 ∙ rw (m .0) (rows-accepted 16 f (length (reads ++ mixed)) (omega (arith, both))) in
+      let new : x ≡ reads ++ mixedRows 16 f (wall .factor) reads =
+      e .1 ∙ rw (ok, m .0, rows-joined 16 f (wall .factor) reads mixed (omega arith) length-reads length-mixed) refl in
+      m .1 x ∙ rw (new, append-assoc) refl
+
+-- the output's job
+module _ (u : Hall) (work : List Float) (room : Bool) (e : room ≡ true) where
+  pub output-work : (work′ : List Float) → work′ ≡ outputLaid wall (u .frame) (u .passes) (u .filters) room work → work′ ≡ outputWork wall u work
+  unfolding outputLaid outputWork
+  output-work work′ q = q ∙ rw e refl
+
+  pub output-ends : (gs : List Filter) → gs ≡ outputEnds wall (u .frame) (u .passes) (u .filters) room work → gs ≡ outputFilters wall u work
+  unfolding outputEnds outputFilters
+  output-ends gs q = q ∙ rw e refl

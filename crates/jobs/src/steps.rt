@@ -1,0 +1,30 @@
+// What a job does to its own rows of the work memory, and to its mark.
+use iir::Filter;
+use unit::State;
+ghost use mathlib.Core.Path.{_≡_};
+ghost use Prim.Native.Nat.{_<_};
+ghost use lib.ListN.{length};
+ghost use Rattle.unit.specs.Hall.{ofState, toState};
+ghost use Rattle.unit.specs.Model.{wall};
+ghost use Rattle.lines.specs.Work.{OutputFits};
+ghost use Rattle.jobs.specs.Steps.{markedUnit, mixLaid};
+
+// The unit with the job of mark k done, and its filters then.
+pub(crate) fn marked(s: State, k: usize, filters: [Filter; 51]) -> State
+    requires { ⌜ k < 34 ⌝ }
+    ensures { λ r. ⌜ r ≡ toState (markedUnit (ofState s) k filters) ⌝ }
+{
+    let mut t = s;
+    t.marks[k] = true;
+    t.filters = filters;
+    t
+}
+
+// Mixes the rows read into the rows mixed.
+pub(crate) fn mix_rows(f: usize, work: &mut [f32])
+    requires { ⌜ OutputFits wall f (length (now work)) ⌝ }
+    ensures { λ _. ⌜ now (work .exit) ≡ mixLaid wall f (now (work .entry)) ⌝ }
+{
+    let e = 33 * f;
+    hadamard::mix_rows(16, 0.25, &mut work[f..e]);
+}
