@@ -21,7 +21,7 @@ use Rattle.frame.specs.Lines.{noFilter, three, threeOf, plus}
 use Rattle.frame.specs.Frame.{Frame, frameFrom, passesIn, lineRows, newFilters}
 use Rattle.turns.specs.Marks.{mixMark, lineMark, outputMark, allDone}
 use Rattle.lines.specs.Rows.{row, setRow, Rows, rowsOf, joined}
-use Rattle.jobs.specs.Play.{openWork}
+use Rattle.jobs.specs.Play.{openLaid, openWork}
 use Rattle.jobs.specs.Steps.{readRow, lineRow, outputOf, readWork, mixLaid, mixWork, lineWork, lineFilters, outputWork, outputFilters}
 use Rattle.demands.proofs.LineRings.{read-row}
 use Rattle.demands.proofs.AnyOrderRows.{stacked, stacked-same, length-stacked, stacked-rows, stacked-all, row-stacked, row-of, set-stacked, set-of, over-row, over-end, next-row}
@@ -317,7 +317,7 @@ module _ (m : Model) (o : Opening) where
       (λ t. lines t ++ tone t) ∙ take-append-drop (3 * m .lines) (o .filters)
 
   pub none-work : openWork m (o .unit) (o .input) (o .store) ≡ joined (rowsAt m o none)
-  unfolding openWork
+  unfolding openLaid
   none-work =
       let silent = silent-rows (m .lines) (o .unit .frame) in
       let reads : stacked (m .lines) (λ i. silence o) ≡ stacked (m .lines) (readAt m o none) =

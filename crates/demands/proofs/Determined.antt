@@ -181,6 +181,14 @@ use Rattle.jobs.proofs.close.Kinds as jobs-close-kinds
 use Rattle.jobs.proofs.close.Reads as jobs-close-reads
 use Rattle.jobs.proofs.abandon.Kinds as jobs-abandon-kinds
 use Rattle.jobs.proofs.abandon.Reads as jobs-abandon-reads
+use Rattle.jobs.proofs.open_apply.Kinds as jobs-open-apply-kinds
+use Rattle.jobs.proofs.open_apply.Reads as jobs-open-apply-reads
+use Rattle.jobs.proofs.open_tail.Kinds as jobs-open-tail-kinds
+use Rattle.jobs.proofs.open_tail.Reads as jobs-open-tail-reads
+use Rattle.jobs.proofs.job_mix.Kinds as jobs-job-mix-kinds
+use Rattle.jobs.proofs.job_mix.Reads as jobs-job-mix-reads
+use Rattle.jobs.proofs.job_output.Kinds as jobs-job-output-kinds
+use Rattle.jobs.proofs.job_output.Reads as jobs-job-output-reads
 
 -- ---- samples
 
@@ -581,3 +589,27 @@ jobs-abandon κs a x y s t p q = p .0 ∙ sym (q .0)
 
 pub jobs-abandon-work : OneExit 1 jobs-abandon-kinds.ps jobs-abandon-kinds.r jobs-abandon-reads.Post (λ κs s. s .1 .0 .now)
 jobs-abandon-work κs a x y s t p q = p .1 ∙ sym (q .1)
+
+pub jobs-open-apply : OneResult 4 jobs-open-apply-kinds.ps jobs-open-apply-kinds.r jobs-open-apply-reads.Post
+jobs-open-apply κs a x y s t p q = p .0 ∙ sym (q .0)
+
+pub jobs-open-apply-work : OneExit 4 jobs-open-apply-kinds.ps jobs-open-apply-kinds.r jobs-open-apply-reads.Post (λ κs s. s .1 .1 .1 .1 .1 .0 .now)
+jobs-open-apply-work κs a x y s t p q = p .1 ∙ sym (q .1)
+
+pub jobs-open-tail : OneResult 2 jobs-open-tail-kinds.ps jobs-open-tail-kinds.r jobs-open-tail-reads.Post
+jobs-open-tail κs a x y s t p q = p .0 ∙ sym (q .0)
+
+pub jobs-open-tail-work : OneExit 2 jobs-open-tail-kinds.ps jobs-open-tail-kinds.r jobs-open-tail-reads.Post (λ κs s. s .1 .1 .0 .now)
+jobs-open-tail-work κs a x y s t p q = p .1 ∙ sym (q .1)
+
+pub jobs-job-mix : OneResult 1 jobs-job-mix-kinds.ps jobs-job-mix-kinds.r jobs-job-mix-reads.Post
+jobs-job-mix κs a x y s t p q = p .0 ∙ sym (q .0)
+
+pub jobs-job-mix-work : OneExit 1 jobs-job-mix-kinds.ps jobs-job-mix-kinds.r jobs-job-mix-reads.Post (λ κs s. s .1 .0 .now)
+jobs-job-mix-work κs a x y s t p q = p .1 ∙ sym (q .1)
+
+pub jobs-job-output : OneResult 1 jobs-job-output-kinds.ps jobs-job-output-kinds.r jobs-job-output-reads.Post
+jobs-job-output κs a x y s t p q = p .0 ∙ sym (q .0)
+
+pub jobs-job-output-work : OneExit 1 jobs-job-output-kinds.ps jobs-job-output-kinds.r jobs-job-output-reads.Post (λ κs s. s .1 .0 .now)
+jobs-job-output-work κs a x y s t p q = p .1 ∙ sym (q .1)

@@ -19,3 +19,4 @@ pub mod Together
 pub mod LineTurn
 pub mod LineLaw
 pub mod UnitRefusals
+pub mod JobRefusals

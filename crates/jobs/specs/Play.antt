@@ -66,7 +66,10 @@ abbrev pub opened : Model → Hall → Play → Hall
 opened m u p = holding u (filtersFor m u p) true (isTail p) (replicate (jobsLen m) false) (countFor u p) (u .filters)
 
 -- "sets every work float: input, the four allpass rings copied, else +0"
-unfoldable pub openWork : Model → Hall → List Float → List Float → List Float
-openWork m u input store =
-    let rows = replicate (m .lines * u .frame) +0 in
-    laid input rows rows (replicate (u .frame) +0) (passesIn m (u .frame) store)
+unfoldable pub openLaid : Model → ℕ → List Float → List Float → List Float
+openLaid m f input store =
+    let rows = replicate (m .lines * f) +0 in
+    laid input rows rows (replicate f +0) (passesIn m f store)
+
+abbrev pub openWork : Model → Hall → List Float → List Float → List Float
+openWork m u input store = openLaid m (u .frame) input store

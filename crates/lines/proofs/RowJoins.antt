@@ -270,7 +270,7 @@ module _ (n f : ℕ) (k : Float) (tail : Bool) (fs : List Filter) (input reads :
 -- ---- a whole frame
 
 -- the end of the store over the end of the work memory
-copy-join : (t b : ℕ) (store work x : List Float) → t ≤ length store → length work ≡ b + (length store - t)
+pub copy-join : (t b : ℕ) (store work x : List Float) → t ≤ length store → length work ≡ b + (length store - t)
     → let a = length store - (length work - b) in
     x ≡ copied (take (length store - a) (drop a store)) (take (length work - b) (drop b work))
     → putMid b (length work - b) work x ≡ take b work ++ drop t store

@@ -56,29 +56,44 @@ both-let-by a b e = let p = go (accepted a) refl in (p, rw p at e)
     go true h = is-accepted a h
     go false h = sym (accept-no a b a h) ∙ e
 
--- what an accepted apply tells of what it is given, and of the memory lent
-pub record ApplyFits (u : Hall) (t : Times) (coefficients input store work output : ℕ) : Type 0 where
-  pub room : roomOk wall (u .frame) (u .lines) (u .passes) store work output ≡ true
+-- what an accepted apply, whole or opened, tells of what it is given
+pub record Given (u : Hall) (t : Times) (coefficients input : ℕ) (lent : Bool) : Type 0 where
+  pub due : Due u lent
   pub given : coefficients ≡ 255
   pub row : input ≡ u .frame
-  pub holds : u .frame ≤ work
   pub count : countOf t (u .rate) (u .frame) ≡ tailCount t (u .rate) (u .frame)
 
-pub apply-fits : (u : Hall) (t : Times) (coefficients input : List Float) (store work output : ℕ)
-    → judgedApply wall u t coefficients input store work output ≡ Accepted → ApplyFits u t (length coefficients) (length input) store work output
+pub given-of : (u : Hall) (t : Times) (coefficients input : List Float) (lent : Bool)
+    → orElse (judged wall u (givenOk wall u (length coefficients) (length input) && lent) true (not (u .busy))) (judgedGiven t coefficients input) ≡ Accepted
+    → Given u t (length coefficients) (length input) lent
 unfolding judgedGiven
-apply-fits u t coefficients input store work output e =
+given-of u t coefficients input lent e =
     let given = givenOk wall u (length coefficients) (length input) in
-    let lent = lentOk wall u store work output in
     let p = both-let-by (judged wall u (given && lent) true (not (u .busy))) (judgedGiven t coefficients input) e in
     let d = due-of u (given && lent) true (not (u .busy)) (p .0) in
     let l = split-and given lent (d .lent) in
     let g = split-and _ _ (l .0) in
     let times = needed (timesOk t) BadTime _ refl (p .1) .0 in
     record {
-      room = room-of u store work output d (l .1);
+      due = record { sizes = d .sizes; cursors = d .cursors; lent = l .1 };
       given = eqb-true _ _ (g .0);
       row = eqb-true _ _ (g .1);
-      holds = work-holds (u .frame) work (eqb-true _ _ (split-and _ _ (split-and (storeOk wall u store) _ (l .1) .1) .0));
       count = rw (d .sizes, times) refl;
+    }
+
+-- and of the memory lent to a whole one
+pub record ApplyFits (u : Hall) (t : Times) (coefficients input store work output : ℕ) : Type 0 where
+  pub room : roomOk wall (u .frame) (u .lines) (u .passes) store work output ≡ true
+  pub holds : u .frame ≤ work
+  pub what : Given u t coefficients input (lentOk wall u store work output)
+
+pub apply-fits : (u : Hall) (t : Times) (coefficients input : List Float) (store work output : ℕ)
+    → judgedApply wall u t coefficients input store work output ≡ Accepted → ApplyFits u t (length coefficients) (length input) store work output
+apply-fits u t coefficients input store work output e =
+    let g = given-of u t coefficients input (lentOk wall u store work output) e in
+    let lent = g .due .lent in
+    record {
+      room = room-of u store work output (g .due) lent;
+      holds = work-holds (u .frame) work (eqb-true _ _ (split-and _ _ (split-and (storeOk wall u store) _ lent .1) .0));
+      what = g;
     }

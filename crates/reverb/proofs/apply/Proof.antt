@@ -118,7 +118,7 @@ whole-frame-requires c κs =
     let p = copied .before .before .before .before in
     let a = p .before .before .before .before .before .before .before .before .args in
     let h = fits p in
-    let b = begun (a .s .frame) (now (a .input)) (now (a .work)) _ (h .row) (h .holds) (copied .copy .ensures) in
+    let b = begun (a .s .frame) (now (a .input)) (now (a .work)) _ (h .what .row) (h .holds) (copied .copy .ensures) in
     rw (b .1) (h .room)
 
 same-length : tie.Need-same-length
@@ -140,9 +140,9 @@ returns-2 c =
     let a = p .before .before .before .before .before .before .before .before .args in
     let u = ofState (a .s) in
     let h = fits p in
-    let b = begun (u .frame) (now (a .input)) (now (a .work)) _ (h .row) (h .holds) (copied .copy .ensures) in
-    let r = one-frame u _ _ _ _ (now (a .store)) (filters-given (now (a .coefficients)) _ (h .given) (filtered .filters-of .ensures)) (b .0) in
-    let count = ap (λ (n : Counted). n .count .0) (counted .tail-count .ensures) ∙ ap pos (h .count) in
+    let b = begun (u .frame) (now (a .input)) (now (a .work)) _ (h .what .row) (h .holds) (copied .copy .ensures) in
+    let r = one-frame u _ _ _ _ (now (a .store)) (filters-given (now (a .coefficients)) _ (h .what .given) (filtered .filters-of .ensures)) (b .0) in
+    let count = ap (λ (n : Counted). n .count .0) (counted .tail-count .ensures) ∙ ap pos (h .what .count) in
     let g = ran .whole-frame .ensures in
     as-frame u _ _ _ _ _ _ (now (a .store)) _ (now (a .work)) _ (now (a .output)) _ _ (through p) r count (b .1) (g .0) (g .1 .0) (g .1 .1 .0) (g .1 .1 .1)
 

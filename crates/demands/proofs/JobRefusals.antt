@@ -1,0 +1,71 @@
+-- "A refusal changes nothing", of the calls of a frame done as jobs: the state, and each lent slice. Assumes nothing.
+use mathlib.Core.Path.{_≡_, sym, ap, _∙_}
+use mathlib.Core.Bool.{false}
+use lib.ListN.{length, replicate}
+use Rattle.samples.specs.declared.Answer.{Answer}
+use Rattle.samples.specs.Answers.{accept, accepted}
+use Rattle.samples.specs.Binary32.{+0}
+use Rattle.samples.proofs.Laws.{accept-no}
+use Rattle.unit.specs.declared.State.{State}
+use Rattle.unit.specs.Hall.{Hall, ofState, toState}
+use Rattle.unit.specs.Model.{wall}
+use Rattle.turns.specs.Marks.{mixMark, outputMark}
+use Rattle.turns.specs.Turns.{judgedOpenApply, judgedOpenTail, judgedMix, judgedOutput, judgedAbandon}
+use Rattle.reverb.specs.declared.Outcome.{Outcome}
+use Rattle.jobs.specs.Play as Play
+use Rattle.jobs.specs.Play.{opened, openWork}
+use Rattle.jobs.specs.Steps.{markedUnit, mixWork, outputWork, outputFilters}
+use Rattle.jobs.specs.Close.{shut, cleared}
+use Rattle.jobs.proofs.open_apply.Kinds as jobs-open-apply-kinds
+use Rattle.jobs.proofs.open_apply.Reads as jobs-open-apply-reads
+use Rattle.jobs.proofs.open_tail.Kinds as jobs-open-tail-kinds
+use Rattle.jobs.proofs.open_tail.Reads as jobs-open-tail-reads
+use Rattle.jobs.proofs.job_mix.Kinds as jobs-job-mix-kinds
+use Rattle.jobs.proofs.job_mix.Reads as jobs-job-mix-reads
+use Rattle.jobs.proofs.job_output.Kinds as jobs-job-output-kinds
+use Rattle.jobs.proofs.job_output.Reads as jobs-job-output-reads
+use Rattle.jobs.proofs.abandon.Kinds as jobs-abandon-kinds
+use Rattle.jobs.proofs.abandon.Reads as jobs-abandon-reads
+use Rattle.demands.specs.Determined.{Unchanged}
+use Rattle.demands.proofs.Refusals.{kept}
+
+abbrev answer-of : Outcome → Answer
+answer-of x = x .answer
+
+abbrev state-of : Outcome → State
+state-of x = x .state
+
+-- the state of an outcome whose answer, which is `due`, refuses
+state-kept : (x : Outcome) (s : State) (due : Answer) (new : Hall) → x .answer ≡ due → x .state ≡ toState (accept due new (ofState s)) → accepted (x .answer) ≡ false
+    → x .state ≡ s
+state-kept x s due new e q h = q ∙ ap toState (accept-no due new (ofState s) (sym (ap accepted e) ∙ h))
+
+pub jobs-open-apply-state : Unchanged 4 jobs-open-apply-kinds.ps jobs-open-apply-kinds.r jobs-open-apply-reads.Post (λ κs x. x .answer) (λ κs x s. x .state) (λ κs a. a .0)
+jobs-open-apply-state κs a x s p h = state-kept x (a .0) (judgedOpenApply wall (ofState (a .0)) (a .1 .0) (a .1 .1 .0 .now) (a .1 .1 .1 .0 .now) (length (a .1 .1 .1 .1 .0 .now)) (length (a .1 .1 .1 .1 .1 .0 .now))) (opened wall (ofState (a .0)) (Play.apply (a .1 .0) (a .1 .1 .0 .now) (a .1 .1 .1 .0 .now))) (ap answer-of (p .0)) (ap state-of (p .0)) h
+
+pub jobs-open-apply-work : Unchanged 4 jobs-open-apply-kinds.ps jobs-open-apply-kinds.r jobs-open-apply-reads.Post (λ κs x. x .answer) (λ κs x s. s .1 .1 .1 .1 .1 .0 .now) (λ κs a. a .1 .1 .1 .1 .1 .0 .now)
+jobs-open-apply-work κs a x s p h = kept (x .answer) (judgedOpenApply wall (ofState (a .0)) (a .1 .0) (a .1 .1 .0 .now) (a .1 .1 .1 .0 .now) (length (a .1 .1 .1 .1 .0 .now)) (length (a .1 .1 .1 .1 .1 .0 .now))) (openWork wall (ofState (a .0)) (a .1 .1 .1 .0 .now) (a .1 .1 .1 .1 .0 .now)) (a .1 .1 .1 .1 .1 .0 .now) (p .1) (ap answer-of (p .0)) h
+
+pub jobs-open-tail-state : Unchanged 2 jobs-open-tail-kinds.ps jobs-open-tail-kinds.r jobs-open-tail-reads.Post (λ κs x. x .answer) (λ κs x s. x .state) (λ κs a. a .0)
+jobs-open-tail-state κs a x s p h = state-kept x (a .0) (judgedOpenTail wall (ofState (a .0)) (length (a .1 .0 .now)) (length (a .1 .1 .0 .now))) (opened wall (ofState (a .0)) Play.tail) (ap answer-of (p .0)) (ap state-of (p .0)) h
+
+pub jobs-open-tail-work : Unchanged 2 jobs-open-tail-kinds.ps jobs-open-tail-kinds.r jobs-open-tail-reads.Post (λ κs x. x .answer) (λ κs x s. s .1 .1 .0 .now) (λ κs a. a .1 .1 .0 .now)
+jobs-open-tail-work κs a x s p h = kept (x .answer) (judgedOpenTail wall (ofState (a .0)) (length (a .1 .0 .now)) (length (a .1 .1 .0 .now))) (openWork wall (ofState (a .0)) (replicate (a .0 .frame) +0) (a .1 .0 .now)) (a .1 .1 .0 .now) (p .1) (ap answer-of (p .0)) h
+
+pub jobs-job-mix-state : Unchanged 1 jobs-job-mix-kinds.ps jobs-job-mix-kinds.r jobs-job-mix-reads.Post (λ κs x. x .answer) (λ κs x s. x .state) (λ κs a. a .0)
+jobs-job-mix-state κs a x s p h = state-kept x (a .0) (judgedMix wall (ofState (a .0)) (length (a .1 .0 .now))) (markedUnit (ofState (a .0)) (mixMark wall) (a .0 .filters)) (ap answer-of (p .0)) (ap state-of (p .0)) h
+
+pub jobs-job-mix-work : Unchanged 1 jobs-job-mix-kinds.ps jobs-job-mix-kinds.r jobs-job-mix-reads.Post (λ κs x. x .answer) (λ κs x s. s .1 .0 .now) (λ κs a. a .1 .0 .now)
+jobs-job-mix-work κs a x s p h = kept (x .answer) (judgedMix wall (ofState (a .0)) (length (a .1 .0 .now))) (mixWork wall (ofState (a .0)) (a .1 .0 .now)) (a .1 .0 .now) (p .1) (ap answer-of (p .0)) h
+
+pub jobs-job-output-state : Unchanged 1 jobs-job-output-kinds.ps jobs-job-output-kinds.r jobs-job-output-reads.Post (λ κs x. x .answer) (λ κs x s. x .state) (λ κs a. a .0)
+jobs-job-output-state κs a x s p h = state-kept x (a .0) (judgedOutput wall (ofState (a .0)) (length (a .1 .0 .now))) (markedUnit (ofState (a .0)) (outputMark wall) (outputFilters wall (ofState (a .0)) (a .1 .0 .now))) (ap answer-of (p .0)) (ap state-of (p .0)) h
+
+pub jobs-job-output-work : Unchanged 1 jobs-job-output-kinds.ps jobs-job-output-kinds.r jobs-job-output-reads.Post (λ κs x. x .answer) (λ κs x s. s .1 .0 .now) (λ κs a. a .1 .0 .now)
+jobs-job-output-work κs a x s p h = kept (x .answer) (judgedOutput wall (ofState (a .0)) (length (a .1 .0 .now))) (outputWork wall (ofState (a .0)) (a .1 .0 .now)) (a .1 .0 .now) (p .1) (ap answer-of (p .0)) h
+
+pub jobs-abandon-state : Unchanged 1 jobs-abandon-kinds.ps jobs-abandon-kinds.r jobs-abandon-reads.Post (λ κs x. x .answer) (λ κs x s. x .state) (λ κs a. a .0)
+jobs-abandon-state κs a x s p h = state-kept x (a .0) (judgedAbandon wall (ofState (a .0)) (length (a .1 .0 .now))) (shut wall (ofState (a .0))) (ap answer-of (p .0)) (ap state-of (p .0)) h
+
+pub jobs-abandon-work : Unchanged 1 jobs-abandon-kinds.ps jobs-abandon-kinds.r jobs-abandon-reads.Post (λ κs x. x .answer) (λ κs x s. s .1 .0 .now) (λ κs a. a .1 .0 .now)
+jobs-abandon-work κs a x s p h = kept (x .answer) (judgedAbandon wall (ofState (a .0)) (length (a .1 .0 .now))) (cleared (a .1 .0 .now)) (a .1 .0 .now) (p .1) (ap answer-of (p .0)) h

@@ -1,0 +1,104 @@
+-- What an open leaves of the work memory. Assumes nothing.
+use mathlib.Core.Path.{_≡_, refl, sym, ap, _∙_}
+use mathlib.Core.Bool.{_&&_}
+use mathlib.Core.List.{List, [], _++_, append-assoc}
+use Prim.Native.Nat.{ℕ, _+_, _*_, _-_, _≤_}
+use native.Mathlib.Omega.{arith}
+use lib.Ieee.{Float}
+use lib.ListN.{length, take, drop, replicate, length-append, length-replicate, replicate-append-replicate}
+use lib.Seq.{take-at}
+use borrow.Author.Tests.{eqb-true}
+use borrow.Rule.Slice.PartMut.{putMid}
+use Rattle.samples.specs.Binary32.{+0}
+use Rattle.samples.specs.Sizes.{rateOk, frameOk}
+use Rattle.samples.proofs.Laws.{split-and, join-and}
+use Rattle.samples.proofs.Turns.{middle}
+use Rattle.unit.specs.Hall.{Hall}
+use Rattle.unit.specs.Model.{wall}
+use Rattle.unit.specs.Sizes.{lineLengths, total, storeLen}
+use Rattle.unit.specs.Judges.{storeOk, workOk}
+use Rattle.frame.specs.Steps.{copied}
+use Rattle.frame.proofs.RowLaws.{copied-all}
+use Rattle.lines.specs.Work.{OutputFits}
+use Rattle.lines.specs.Rows.{joined}
+use Rattle.lines.proofs.RowJoins.{copy-join}
+use Rattle.lines.proofs.RowsOf.{output-fits}
+use Rattle.reverb.proofs.Fits.{Due}
+use Rattle.jobs.specs.Play.{openLaid}
+
+-- an accepted open is lent a store and a work memory of its unit's frames
+pub record OpenFits (f store work : ℕ) : Type 0 where
+  pub fits : OutputFits wall f work
+  pub rings : store ≡ storeLen wall f
+
+pub open-fits : (u : Hall) (store work : ℕ) → Due u (storeOk wall u store && workOk wall u work) → OpenFits (u .frame) store work
+open-fits u store work d =
+    let l = split-and (storeOk wall u store) (workOk wall u work) (d .lent) in
+    let frame = split-and (rateOk (u .rate)) (frameOk (u .frame)) (d .sizes) .1 in
+    record { fits = output-fits (u .frame) work (join-and frame (l .1)); rings = eqb-true _ _ (l .0) }
+
+-- 34 rows of +0, by their kinds
+rows-of-zeros : (f : ℕ) (rings : List Float)
+    → replicate (34 * f) +0 ++ rings
+    ≡ replicate f +0 ++ (replicate (16 * f) +0 ++ (replicate (16 * f) +0 ++ (replicate f +0 ++ rings)))
+rows-of-zeros f rings =
+    let e : 34 * f ≡ f + (16 * f + (16 * f + f)) = omega arith in
+    let z : replicate (34 * f) +0 ≡ replicate f +0 ++ (replicate (16 * f) +0 ++ (replicate (16 * f) +0 ++ replicate f +0)) =
+    ap (λ (n : ℕ). replicate n +0) e
+    ∙ sym (replicate-append-replicate f (16 * f + (16 * f + f)) +0)
+    ∙ ap (λ (l : List Float). replicate f +0 ++ l)
+    (sym (replicate-append-replicate (16 * f) (16 * f + f) +0)
+    ∙ ap (λ (l : List Float). replicate (16 * f) +0 ++ l) (sym (replicate-append-replicate (16 * f) f +0))) in
+    ap (λ (l : List Float). l ++ rings) z
+    ∙ append-assoc (replicate f +0) (replicate (16 * f) +0 ++ (replicate (16 * f) +0 ++ replicate f +0)) rings
+    ∙ ap (λ (l : List Float). replicate f +0 ++ l)
+    (append-assoc (replicate (16 * f) +0) (replicate (16 * f) +0 ++ replicate f +0) rings
+    ∙ ap (λ (l : List Float). replicate (16 * f) +0 ++ l) (append-assoc (replicate (16 * f) +0) (replicate f +0) rings))
+
+-- the parts of a store
+pub lines-before : (f store : ℕ) → store ≡ storeLen wall f → total (lineLengths wall f) + total (wall .passes) ≡ store
+unfolding storeLen
+lines-before f store e = sym e
+
+-- the rings copied to the end of a work memory that is all +0
+pub begin-laid : (f : ℕ) (store w x : List Float) (n : ℕ) → OutputFits wall f n → length store ≡ storeLen wall f → w ≡ replicate n +0
+    → let b = 34 * f in
+    let a = length store - (length w - b) in
+    x ≡ copied (take (length store - a) (drop a store)) (take (length w - b) (drop b w))
+    → putMid b (length w - b) w x ≡ openLaid wall f (replicate f +0) store
+unfolding openLaid joined
+begin-laid f store w x n h e z ex =
+    let t = total (lineLengths wall f) in
+    let rings = total (wall .passes) in
+    let parts = lines-before f (length store) e in
+    let long : length w ≡ n = ap length z ∙ length-replicate n +0 in
+    let sum : n ≡ 34 * f + rings = omega (arith, h .work-is) in
+    let all : w ≡ replicate (34 * f) +0 ++ replicate rings +0 =
+    z ∙ ap (λ (k : ℕ). replicate k +0) sum ∙ sym (replicate-append-replicate (34 * f) rings +0) in
+    let front : take (34 * f) w ≡ replicate (34 * f) +0 =
+    ap (take (34 * f)) all ∙ take-at (replicate (34 * f) +0) (replicate rings +0) (34 * f) (length-replicate (34 * f) +0) in
+    copy-join t (34 * f) store w x (omega (arith, parts)) (omega (arith, parts, long, h .work-is)) ex
+    ∙ ap (λ (l : List Float). l ++ drop t store) front
+    ∙ rows-of-zeros f (drop t store)
+
+-- the input copied to its front
+module _ (f : ℕ) (store : List Float) where
+  abbrev rest : List Float
+  rest = replicate (16 * f) +0 ++ (replicate (16 * f) +0 ++ (replicate f +0 ++ drop (total (lineLengths wall f)) store))
+
+  pub open-long : f ≤ length (openLaid wall f (replicate f +0) store)
+  unfolding openLaid joined
+  open-long = rw (length-append (replicate f +0) rest, length-replicate f +0) (omega arith)
+
+  pub input-laid : (input x : List Float) → length input ≡ f → x ≡ copied input (take (f - 0) (drop 0 (openLaid wall f (replicate f +0) store)))
+      → putMid 0 (f - 0) (openLaid wall f (replicate f +0) store) x ≡ openLaid wall f input store
+  unfolding openLaid joined
+  input-laid input x l e =
+      let k : f ≡ f - 0 = omega arith in
+      let m = middle 0 f [] (replicate f +0) rest (replicate f +0 ++ rest) refl refl (length-replicate f +0 ∙ k) in
+      let new : x ≡ input = e ∙ ap (copied input) (m .0) ∙ copied-all input (replicate f +0) (l ∙ sym (length-replicate f +0)) in
+      m .1 x ∙ ap (λ (y : List Float). y ++ rest) new
+
+  pub laid-after : (input w x : List Float) → length input ≡ f → w ≡ openLaid wall f (replicate f +0) store → x ≡ copied input (take (f - 0) (drop 0 w))
+      → putMid 0 (f - 0) w x ≡ openLaid wall f input store
+  laid-after input w x l z e = rw z (input-laid input x l (rw z at e))
