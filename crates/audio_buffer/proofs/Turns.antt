@@ -1,6 +1,5 @@
--- One turn of each loop, and the two ways out of a call that judges first. Assumes nothing.
-use mathlib.Core.Path.{_≡_, sym, ap, _∙_}
-use mathlib.Core.Bool.{Bool, true, false}
+-- One turn of each loop. Assumes nothing.
+use mathlib.Core.Path.{_≡_}
 use mathlib.Core.List.{List, _∷_, _++_}
 use Prim.Native.Nat.{ℕ, suc, _+_, _-_, _≤_, _<_}
 use native.Mathlib.Nat.{add-zero}
@@ -10,10 +9,6 @@ use lib.IntN.{pos}
 use lib.ListN.{getD, take, drop}
 use lib.Seq.{getD-drop, drop-drop}
 use lib.Ieee.{Float, nan, binary32, inFloat}
-use Rattle.samples.specs.declared.Answer.{Answer}
-use Rattle.samples.specs.declared.Answer.the-variants.{Accepted}
-use Rattle.samples.specs.Answers.{accept, accepted}
-use Rattle.samples.proofs.Laws.{is-accepted, accept-no}
 use Rattle.audio_buffer.specs.Layout.{column, columns}
 use Rattle.audio_buffer.specs.Levels.{mixed, summed}
 
@@ -43,15 +38,3 @@ summed-more samples at buffer row n i h =
 pub few-exact : (n : ℕ) → n ≤ 16 → T (inFloat binary32 (pos n))
 unfolding inFloat
 few-exact n h = le→leb n 16777216 (omega arith)
-
--- ---- a call that judges first: `a` is its answer, `j` the judgement, `b` whether it was accepted
-
-module _ {a j : Answer} {b : Bool} (e : a ≡ j) (t : b ≡ accepted a) where
-  pub passed : b ≡ true → j ≡ Accepted
-  passed h = sym e ∙ is-accepted a (sym t ∙ h)
-
-  pub worked : {A : Type 0} {r new : A} (old : A) → b ≡ true → r ≡ new → (a ≡ j) × (r ≡ accept j new old)
-  worked {new = new} old h w = (e, w ∙ sym (ap (λ (k : Answer). accept k new old) (passed h)))
-
-  pub refused : {A : Type 0} (new old : A) → b ≡ false → (a ≡ j) × (old ≡ accept j new old)
-  refused new old h = (e, sym (accept-no j new old (sym (ap accepted e) ∙ sym t ∙ h)))

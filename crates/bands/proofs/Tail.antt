@@ -11,11 +11,9 @@ use lib.Ieee.Fits.{up-pos, down-pos, and-l}
 use lib.Ieee.Exact.{HasValue, round-exact}
 use borrow.Author.Tests.{ltb-true, ltb-false}
 use Rattle.samples.specs.Binary32.{+0}
-use Rattle.samples.specs.declared.Answer.{Answer}
 use Rattle.samples.specs.declared.Answer.the-variants.{Accepted, BadSize, BadTime}
-use Rattle.samples.specs.Answers.{accepted}
 use Rattle.samples.specs.Sizes.{rateOk, frameOk}
-use Rattle.samples.proofs.Laws.{split-and, join-and, needed, is-accepted, accept-no, Rate, rate-of, Frame, frame-of}
+use Rattle.samples.proofs.Laws.{split-and, join-and, needed, accept-either, Rate, rate-of, Frame, frame-of}
 use Rattle.bands.specs.declared.Times.{Times}
 use Rattle.bands.specs.Times.{timeOk, timesOk, larger, largest}
 use Rattle.bands.specs.Tail.{ceiling, framesIn, judgedCount, tailCount, countOf, CountRange}
@@ -140,11 +138,4 @@ pub count-yes : (t : Times) (rate frame : ℕ) → judgedCount t rate frame ≡ 
 count-yes t rate frame e = rw e refl
 
 pub count-range : CountRange
-count-range t rate frame = go (accepted j) refl
-  where
-    j : Answer
-    j = judgedCount t rate frame
-
-    go : (b : Bool) → accepted j ≡ b → countOf t rate frame ≤ 9600000
-    go true e = let y = is-accepted j e in rw (count-yes t rate frame y) (tail-upto t rate frame y)
-    go false e = rw (accept-no j (tailCount t rate frame) 0 e) (omega arith)
+count-range t rate frame = accept-either (λ (n : ℕ). n ≤ 9600000) (judgedCount t rate frame) (tail-upto t rate frame) (λ e. omega arith)

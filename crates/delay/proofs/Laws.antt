@@ -2,21 +2,21 @@
 -- lengths that every call leaves. Assumes nothing.
 use borrow.Author.Tests.{lt-ltb, le-leb, leb-true, ltb-true}
 use mathlib.Core.Path.{_≡_, refl, ap, _∙_}
-use mathlib.Core.Bool.{Bool, true, false}
 use mathlib.Core.List.{List}
 use Prim.Native.Nat.{ℕ, _+_, _≤_, _<_}
 use lib.Ieee.{Float}
 use lib.ListN.{length, take, replicate, length-replicate}
 use Rattle.samples.specs.Binary32.{+0}
-use Rattle.samples.specs.Answers.{accept, accepted}
 use Rattle.samples.specs.declared.Answer.{Answer}
 use Rattle.samples.specs.declared.Answer.the-variants.{Accepted, BadState, BadLength, BadIndex}
-use Rattle.samples.proofs.Laws.{needed, split-and, is-accepted, accept-no}
+use Rattle.samples.proofs.Laws.{needed, split-and}
 use Rattle.delay.specs.declared.Cursors.{Cursors}
 use Rattle.delay.specs.declared.Four.{Four}
 use Rattle.delay.specs.Ring.{rotl, wrap, read, write, readEach, listOf}
 use Rattle.delay.specs.Calls.{lengthOk, cursorsOk, countOk, judgedLength, judgedThen, judgedRing, judgedCount, both, readTo, writeTo, silent}
 use Rattle.delay.specs.Calls.{freshAnswer, freshRing, resetAnswer, resetRing, getAnswer, getOut, putAnswer, putRing, get4Answer, put4Answer, put4Ring}
+-- `demands` cites it from here
+pub use Rattle.samples.proofs.Laws.{accept-either}
 pub use Rattle.delay.proofs.Views.{wrap-lo, wrap-hi, wrap-less, ahead-wrap, ahead-less, ahead-add, wrap-mod, ahead-mod, length-rotl, rotl-at, rotl-same}
 pub use Rattle.delay.proofs.Views.{read-view, length-read, length-write, turn-view, take-on, view-front, read-each, length-writeEach, write-each, all-join, all-parts, all-rotl, all-read, all-write}
 
@@ -122,14 +122,6 @@ put4-ok ring c x r h =
     )
 
 -- ---- lengths, whatever is answered
-
--- what holds of the new where a call is accepted, and of the old where it is refused, holds of what it leaves
-pub accept-either : {A : Type 0} (P : A → Type 0) (a : Answer) {new old : A} → (a ≡ Accepted → P new) → (accepted a ≡ false → P old) → P (accept a new old)
-accept-either P a {new} {old} f g = go (accepted a) refl
-  where
-    go : (b : Bool) → accepted a ≡ b → P (accept a new old)
-    go true e = let h = is-accepted a e in rw h (f h)
-    go false e = rw (accept-no a new old e) (g e)
 
 module _ (ring : List Float) where
   pub length-silent : (a : Answer) → length (silent a ring) ≡ length ring

@@ -16,14 +16,14 @@ use Rattle.samples.specs.Answers.{accept}
 use Rattle.samples.specs.declared.Samples.{Samples}
 use Rattle.samples.specs.declared.Answer.{Answer}
 use Rattle.samples.specs.declared.Answer.the-variants.{Accepted, BadLength}
-use Rattle.samples.proofs.Laws.{needed, split-and, accept-no}
+use Rattle.samples.proofs.Laws.{needed, split-and, accept-no, accept-either}
 use Rattle.samples.proofs.Turns.{lt-or-ge}
 use Rattle.delay.specs.declared.Cursors.{Cursors}
 use Rattle.delay.specs.Ring.{rotl, wrap, read, write, ahead}
 use Rattle.delay.specs.Calls.{lengthOk, judgedCount, judgedRing, both, readTo, writeTo}
 use Rattle.delay.specs.RingLaw.{Turn, Each, gets, given, RingLaw, RingSample, CursorBelow, Equal, CursorsTogether}
 use Rattle.delay.proofs.Views.{wrap-less, ahead-less, length-rotl, rotl-same, length-write, turn-view, take-on}
-use Rattle.delay.proofs.Laws.{Ready, judged-ok, ok-judged, count-ok, ok-count, ready-read, fresh-ok, reset-ok, accept-either}
+use Rattle.delay.proofs.Laws.{Ready, judged-ok, ok-judged, count-ok, ok-count, ready-read, fresh-ok, reset-ok}
 
 -- from any ring, with the cursors equal: the invariant of the turns
 gets-view : (ring : List Float) (k : ℕ) (ts : List Turn) → length ring ≤ 65536 → k < length ring → Each (length ring) ts

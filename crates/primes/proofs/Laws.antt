@@ -1,5 +1,5 @@
 -- What the judgements tell, the range of a delay value, and the two ways out of a call that gives a value. Assumes nothing.
-use mathlib.Core.Path.{_≡_, refl, sym, ap, _∙_}
+use mathlib.Core.Path.{_≡_, refl, sym, ap}
 use mathlib.Core.Bool.{Bool, true, false, true≢false, _&&_}
 use mathlib.Core.List.{List, [], _∷_}
 use Prim.Native.Nat.{ℕ, suc, _+_, _%_, _≤_, _<_}
@@ -12,13 +12,12 @@ use lib.ListN.{length, getD, drop}
 use borrow.Author.Tests.{leb-true, eqb-true}
 use Rattle.samples.specs.declared.Answer.{Answer}
 use Rattle.samples.specs.declared.Answer.the-variants.{Accepted, BadSize, BadLength, BadIndex, BadTime}
-use Rattle.samples.specs.Answers.{accept, accepted}
+use Rattle.samples.specs.Answers.{accepted}
 use Rattle.samples.specs.Binary32.{_⊗_, _⊘_}
 use Rattle.samples.specs.Sizes.{rateOk}
 use Rattle.samples.proofs.Turns.{next}
-use Rattle.samples.proofs.Laws.{split-and, needed, Rate, rate-of}
+use Rattle.samples.proofs.Laws.{split-and, needed, new-made, old-left, Rate, rate-of}
 use Rattle.bands.specs.Times.{timeOk}
-use Rattle.bands.proofs.Laws.{granted, refused}
 use Rattle.bands.proofs.Bounds.{Upto, held, held-int, value-upto, mul-upto, div-upto, whole-upto}
 use Rattle.bands.proofs.Tail.{time-upto}
 use Rattle.primes.specs.declared.Value.{Value}
@@ -31,12 +30,10 @@ use Rattle.primes.proofs.Power.{power-least}
 
 module _ {a j : Answer} {r : Bool} (e : a ≡ j) (t : r ≡ accepted a) where
   pub value-yes : (n m : ℕ) → r ≡ true → n ≡ m → _≡_ {A = Value} (record { answer = a; value = n }) (valued j m)
-  value-yes n m p q =
-      let y : m ≡ accept j m 0 = rw (granted e t p) refl in
-      λ i. record { answer = e i; value = (q ∙ y) i }
+  value-yes n m p q = let y = new-made e t 0 p q in λ i. record { answer = e i; value = y i }
 
   pub value-no : (m : ℕ) → r ≡ false → _≡_ {A = Value} (record { answer = a; value = 0 }) (valued j m)
-  value-no m p = let n = refused m 0 e t p in λ i. record { answer = e i; value = n i }
+  value-no m p = let n = old-left e t m 0 p in λ i. record { answer = e i; value = n i }
 
 -- ---- what an accepted call tells
 

@@ -49,13 +49,29 @@ accept-no NotFinite new old e = refl
 pub accept-yes : {A : Type 0} (a : Answer) (new old : A) → accepted a ≡ true → accept a new old ≡ new
 accept-yes a new old e = rw (is-accepted a e) refl
 
+-- what holds of the new where a call is accepted, and of the old where it is refused, holds of what it leaves
+pub accept-either : {A : Type 0} (P : A → Type 0) (a : Answer) {new old : A} → (a ≡ Accepted → P new) → (accepted a ≡ false → P old) → P (accept a new old)
+accept-either P a {new} {old} f g = go (accepted a) refl
+  where
+    go : (b : Bool) → accepted a ≡ b → P (accept a new old)
+    go true e = let h = is-accepted a e in rw h (f h)
+    go false e = rw (accept-no a new old e) (g e)
+
 -- `new` and `old` may be one: then the answer does not count
 pub accept-same : {A : Type 0} (a : Answer) (x : A) → accept a x x ≡ x
-accept-same a x = go (accepted a) refl
-  where
-    go : (b : Bool) → accepted a ≡ b → accept a x x ≡ x
-    go true e = accept-yes a x x e
-    go false e = accept-no a x x e
+accept-same a x = accept-either (λ (y : _). y ≡ x) a (λ e. refl) (λ e. refl)
+
+-- a call that judges first and goes on by a test: `a` is the answer it gives, `j` the judgement that this is, `ok` what the test of `a` said
+module _ {a j : Answer} {ok : Bool} (e : a ≡ j) (t : ok ≡ accepted a) where
+  -- let by, it was accepted, and what it made is the new; refused, the old is left
+  pub let-by : ok ≡ true → j ≡ Accepted
+  let-by h = sym e ∙ is-accepted a (sym t ∙ h)
+
+  pub new-made : {A : Type 0} {made new : A} (old : A) → ok ≡ true → made ≡ new → made ≡ accept j new old
+  new-made old h m = rw (let-by h) m
+
+  pub old-left : {A : Type 0} (new old : A) → ok ≡ false → old ≡ accept j new old
+  old-left new old h = sym (accept-no j new old (ap accepted (sym e) ∙ sym t ∙ h))
 
 -- ---- judgements
 

@@ -4,9 +4,9 @@ use native.Mathlib.Omega.{arith}
 use Prim.Native.Nat.{_+_, _*_, _≤_}
 use lib.ListN.{length}
 use denote.Ref.{now}
+use Rattle.samples.proofs.Laws.{let-by, new-made, old-left}
 use Rattle.samples.proofs.Turns.{lent}
 use Rattle.audio_buffer.proofs.Laws.{channel-of}
-use Rattle.audio_buffer.proofs.Turns.{passed, worked, refused}
 use Rattle.audio_buffer.proofs.channel.Statement.{statement}
 use Rattle.audio_buffer.proofs.channel.Tie as tie
 
@@ -18,7 +18,7 @@ is-accepted-requires c κs = search needs
 
 -- the channel lies within the buffer
 within : (c : tie.Then1) → let a = c .before .before .before .before .args in a .channel * a .samples + a .samples ≤ length (now (a .buffer))
-within c = channel-of _ _ _ _ (passed (c .before .before .channel-number .ensures) (c .before .is-accepted .ensures) (c .if1 .taken))
+within c = channel-of _ _ _ _ (let-by (c .before .before .channel-number .ensures) (c .before .is-accepted .ensures) (c .if1 .taken))
 
 mul-at : tie.Need-mul-at
 mul-at c = omega (arith, within c)
@@ -52,12 +52,12 @@ returns c =
     let t = c .before in
     let a = t .before .before .before .before .args in
     let own = lent (a .channel * a .samples) (a .samples) (now (a .buffer)) in
-    worked (t .before .before .channel-number .ensures) (t .before .is-accepted .ensures) _ (t .if1 .taken) own .1
+    new-made (t .before .before .channel-number .ensures) (t .before .is-accepted .ensures) _ (t .if1 .taken) own
 
 returns-2 : tie.Need-returns-2
 returns-2 c =
     let t = c .before in
-    refused (t .before .before .channel-number .ensures) (t .before .is-accepted .ensures) _ _ (t .if1 .left) .1
+    old-left (t .before .before .channel-number .ensures) (t .before .is-accepted .ensures) _ _ (t .if1 .left)
 
 pub channel-spec : {M : Type 1} → statement M
 channel-spec =

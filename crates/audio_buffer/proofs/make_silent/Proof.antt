@@ -1,6 +1,6 @@
 -- `audio_buffer::make_silent` meets its contract. Assumes nothing.
 use borrow.Author.Needs.{needs}
-use Rattle.audio_buffer.proofs.Turns.{worked, refused}
+use Rattle.samples.proofs.Laws.{new-made, old-left}
 use Rattle.audio_buffer.proofs.make_silent.Statement.{statement}
 use Rattle.audio_buffer.proofs.make_silent.Tie as tie
 
@@ -19,10 +19,11 @@ same-length c = search needs
 returns : tie.Need-returns
 returns c =
     let t = c .before .before .before .before in
-    worked (t .before .before .judge-then .ensures) (t .before .is-accepted .ensures) _ (t .if1 .taken) (c .before .before .clear .ensures)
+    let e = t .before .before .judge-then .ensures in
+    (e, new-made e (t .before .is-accepted .ensures) _ (t .if1 .taken) (c .before .before .clear .ensures))
 
 returns-2 : tie.Need-returns-2
-returns-2 c = refused (c .before .before .judge-then .ensures) (c .before .is-accepted .ensures) _ _ (c .if1 .left)
+returns-2 c = let e = c .before .before .judge-then .ensures in (e, old-left e (c .before .is-accepted .ensures) _ _ (c .if1 .left))
 
 pub make-silent-spec : {M : Type 1} → statement M
 make-silent-spec =

@@ -1,7 +1,7 @@
 -- `audio_buffer::read_interleaved` meets its contract. Assumes nothing.
 use borrow.Author.Needs.{needs}
+use Rattle.samples.proofs.Laws.{let-by, new-made, old-left}
 use Rattle.audio_buffer.proofs.Laws.{two-of}
-use Rattle.audio_buffer.proofs.Turns.{passed, worked, refused}
 use mathlib.Core.Path.{_∙_}
 use native.Mathlib.Nat.{mul-comm}
 use Rattle.audio_buffer.proofs.read_interleaved.Statement.{statement}
@@ -16,7 +16,7 @@ is-accepted-requires c κs = search needs
 transpose-requires : tie.Need-transpose-requires
 transpose-requires c κs =
     let t = c .before in
-    let p = two-of _ _ _ _ (passed (t .before .before .judge-two .ensures) (t .before .is-accepted .ensures) (t .if1 .taken)) in
+    let p = two-of _ _ _ _ (let-by (t .before .before .judge-two .ensures) (t .before .is-accepted .ensures) (t .if1 .taken)) in
     (p .0 ∙ mul-comm _ _, p .1 ∙ mul-comm _ _)
 
 same-length : tie.Need-same-length
@@ -25,10 +25,11 @@ same-length c = search needs
 returns : tie.Need-returns
 returns c =
     let t = c .before .before .before .before in
-    worked (t .before .before .judge-two .ensures) (t .before .is-accepted .ensures) _ (t .if1 .taken) (c .before .before .transpose .ensures)
+    let e = t .before .before .judge-two .ensures in
+    (e, new-made e (t .before .is-accepted .ensures) _ (t .if1 .taken) (c .before .before .transpose .ensures))
 
 returns-2 : tie.Need-returns-2
-returns-2 c = refused (c .before .before .judge-two .ensures) (c .before .is-accepted .ensures) _ _ (c .if1 .left)
+returns-2 c = let e = c .before .before .judge-two .ensures in (e, old-left e (c .before .is-accepted .ensures) _ _ (c .if1 .left))
 
 pub read-interleaved-spec : {M : Type 1} → statement M
 read-interleaved-spec =

@@ -1,7 +1,7 @@
 -- `audio_buffer::write_interleaved` meets its contract. Assumes nothing.
 use borrow.Author.Needs.{needs}
+use Rattle.samples.proofs.Laws.{let-by, new-made, old-left}
 use Rattle.audio_buffer.proofs.Laws.{two-of}
-use Rattle.audio_buffer.proofs.Turns.{passed, worked, refused}
 use Rattle.audio_buffer.proofs.write_interleaved.Statement.{statement}
 use Rattle.audio_buffer.proofs.write_interleaved.Tie as tie
 
@@ -14,7 +14,7 @@ is-accepted-requires c κs = search needs
 transpose-requires : tie.Need-transpose-requires
 transpose-requires c κs =
     let t = c .before in
-    two-of _ _ _ _ (passed (t .before .before .judge-two .ensures) (t .before .is-accepted .ensures) (t .if1 .taken))
+    two-of _ _ _ _ (let-by (t .before .before .judge-two .ensures) (t .before .is-accepted .ensures) (t .if1 .taken))
 
 same-length : tie.Need-same-length
 same-length c = search needs
@@ -22,10 +22,11 @@ same-length c = search needs
 returns : tie.Need-returns
 returns c =
     let t = c .before .before .before .before in
-    worked (t .before .before .judge-two .ensures) (t .before .is-accepted .ensures) _ (t .if1 .taken) (c .before .before .transpose .ensures)
+    let e = t .before .before .judge-two .ensures in
+    (e, new-made e (t .before .is-accepted .ensures) _ (t .if1 .taken) (c .before .before .transpose .ensures))
 
 returns-2 : tie.Need-returns-2
-returns-2 c = refused (c .before .before .judge-two .ensures) (c .before .is-accepted .ensures) _ _ (c .if1 .left)
+returns-2 c = let e = c .before .before .judge-two .ensures in (e, old-left e (c .before .is-accepted .ensures) _ _ (c .if1 .left))
 
 pub write-interleaved-spec : {M : Type 1} → statement M
 write-interleaved-spec =

@@ -8,8 +8,8 @@ use mir.Syntax.{w32}
 use mir.Val.{toZ}
 use mir.ValLaws.{toZ-pos}
 use Rattle.samples.specs.declared.Answer.the-variants.{Accepted}
+use Rattle.samples.proofs.Laws.{let-by, old-left}
 use Rattle.bands.specs.Tail.{judgedCount, tailCount, countOf}
-use Rattle.bands.proofs.Laws.{granted, refused}
 use Rattle.bands.proofs.Tail.{Counts, counts, count-yes}
 use Rattle.bands.proofs.tail_count.Statement.{statement}
 use Rattle.bands.proofs.tail_count.Tie as tie
@@ -24,7 +24,7 @@ largest-requires : tie.Need-largest-requires
 largest-requires c κs = search needs
 
 yes : (c : tie.Then1) → let a = c .before .before .before .args in judgedCount (a .t) (a .rate) (a .frame) ≡ Accepted
-yes c = granted (c .before .before .judge .ensures) (c .before .is-accepted .ensures) (c .if1 .taken)
+yes c = let-by (c .before .before .judge .ensures) (c .before .is-accepted .ensures) (c .if1 .taken)
 
 known : (c : tie.Then1) → let a = c .before .before .before .args in Counts (a .t) (a .rate) (a .frame)
 known c = counts _ _ _ (yes c)
@@ -55,7 +55,7 @@ returns-2 : tie.Need-returns-2
 returns-2 c =
     let j = c .before .before .judge in
     let a = c .before .before .before .args in
-    let n = refused (tailCount (a .t) (a .rate) (a .frame)) 0 (j .ensures) (c .before .is-accepted .ensures) (c .if1 .left) in
+    let n = old-left (j .ensures) (c .before .is-accepted .ensures) (tailCount (a .t) (a .rate) (a .frame)) 0 (c .if1 .left) in
     λ i. record { answer = j .ensures i; count = record { 0 = pos (n i) } }
 
 pub tail-count-spec : {M : Type 1} → statement M

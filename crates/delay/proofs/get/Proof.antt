@@ -1,12 +1,14 @@
 -- `delay::get` meets its contract: what it judged bounds what `read_each` is asked, and its end is one of two. Assumes nothing.
 use borrow.Author.Needs.{needs}
+use borrow.Author.Tests.{not-false}
 use native.Mathlib.Omega.{arith}
 use mathlib.Core.Path.{ap}
 use lib.ListN.{length}
 use denote.Ref.{now}
+use Rattle.samples.proofs.Laws.{let-by}
 use Rattle.delay.specs.Calls.{readTo}
 use Rattle.delay.proofs.Laws.{Moves, count-ok}
-use Rattle.delay.proofs.Ends.{granted, refused, done}
+use Rattle.delay.proofs.Ends.{refused, done}
 use Rattle.delay.proofs.get.Statement.{statement}
 use Rattle.delay.proofs.get.Tie as tie
 
@@ -17,7 +19,7 @@ is-accepted-requires : tie.Need-is-accepted-requires
 is-accepted-requires c κs = search needs
 
 moves : (c : tie.Else1) → let start = c .before .before .before .before .before in Moves (length (now (start .args .ring))) (start .args .c) (length (now (start .args .out)))
-moves c = count-ok _ _ _ (granted (c .before .before .judge-count .ensures) (c .before .is-accepted .ensures) (c .if1 .left))
+moves c = count-ok _ _ _ (let-by (c .before .before .judge-count .ensures) (c .before .is-accepted .ensures) (not-false _ (c .if1 .left)))
 
 returns : tie.Need-returns
 returns c = refused (c .before .before .judge-count .ensures) (c .before .is-accepted .ensures) _ _ _ _ (c .if1 .taken)

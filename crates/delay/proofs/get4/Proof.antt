@@ -1,12 +1,14 @@
 -- `delay::get4` meets its contract: what it judged bounds where `read_four` begins, and its end is one of two. Assumes nothing.
 use borrow.Author.Needs.{needs}
+use borrow.Author.Tests.{not-false}
 use native.Mathlib.Omega.{arith}
 use mathlib.Core.Path.{ap}
 use lib.ListN.{length}
 use denote.Ref.{now}
+use Rattle.samples.proofs.Laws.{let-by}
 use Rattle.delay.specs.Calls.{readTo}
 use Rattle.delay.proofs.Laws.{Ready, judged-ok}
-use Rattle.delay.proofs.Ends.{granted, refused4, done4}
+use Rattle.delay.proofs.Ends.{refused4, done4}
 use Rattle.delay.proofs.get4.Statement.{statement}
 use Rattle.delay.proofs.get4.Tie as tie
 
@@ -17,7 +19,7 @@ is-accepted-requires : tie.Need-is-accepted-requires
 is-accepted-requires c κs = search needs
 
 ready : (c : tie.Else1) → let start = c .before .before .before .before in Ready (length (now (start .args .ring))) (start .args .c)
-ready c = judged-ok _ _ (granted (c .before .before .judge .ensures) (c .before .is-accepted .ensures) (c .if1 .left))
+ready c = judged-ok _ _ (let-by (c .before .before .judge .ensures) (c .before .is-accepted .ensures) (not-false _ (c .if1 .left)))
 
 returns : tie.Need-returns
 returns c = refused4 (c .before .before .judge .ensures) (c .before .is-accepted .ensures) _ _ _ (c .if1 .taken)

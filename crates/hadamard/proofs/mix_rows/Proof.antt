@@ -1,9 +1,8 @@
 -- `hadamard::mix_rows` meets its contract. Assumes nothing.
 use native.Mathlib.Omega.{arith}
 use borrow.Author.Needs.{needs}
-use mathlib.Core.Path.{sym, _∙_}
-use Rattle.samples.proofs.Laws.{is-accepted, accept-no}
-use Rattle.hadamard.specs.Rows.{rowsMixed}
+use mathlib.Core.Path.{refl, _∙_}
+use Rattle.samples.proofs.Laws.{let-by, new-made, old-left}
 use Rattle.hadamard.proofs.Laws.{rows-fit, judged-is, rows-done}
 use Rattle.hadamard.proofs.mix_rows.Statement.{statement}
 use Rattle.hadamard.proofs.mix_rows.Tie as tie
@@ -35,9 +34,10 @@ returns c =
     let a = s .before .before .before .before .args in
     let f = s .before .before .row-length .ensures in
     let n = s .before .need .ensures in
-    let ok = is-accepted (s .before .need .result) (sym (s .is-accepted .ensures) ∙ c .before .before .before .before .if1 .taken) in (
+    let t = s .is-accepted .ensures in
+    let h = c .before .before .before .before .if1 .taken in (
       n ∙ judged-is (a .lines) _ f,
-      rw ok (c .before .before .mix-all .ensures ∙ rows-done (a .lines) (a .factor) (a .rows .now) f (sym n ∙ ok)),
+      new-made {a = s .before .need .result} refl t _ h (c .before .before .mix-all .ensures ∙ rows-done (a .lines) (a .factor) (a .rows .now) f (let-by n t h)),
     )
 
 returns-2 : tie.Need-returns-2
@@ -45,7 +45,7 @@ returns-2 c =
     let s = c .before in
     let a = s .before .before .before .before .args in (
       s .before .need .ensures ∙ judged-is (a .lines) _ (s .before .before .row-length .ensures),
-      sym (accept-no (s .before .need .result) (rowsMixed (a .lines) (a .factor) (a .rows .now)) (a .rows .now) (sym (s .is-accepted .ensures) ∙ c .if1 .left)),
+      old-left {a = s .before .need .result} refl (s .is-accepted .ensures) _ _ (c .if1 .left),
     )
 
 pub mix-rows-spec : {M : Type 1} → statement M

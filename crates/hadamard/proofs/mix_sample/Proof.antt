@@ -1,11 +1,11 @@
 -- `hadamard::mix_sample` meets its contract. Assumes nothing.
 use native.Mathlib.Omega.{arith}
 use borrow.Author.Needs.{needs}
-use mathlib.Core.Path.{_≡_, refl, sym, ap, _∙_}
+use mathlib.Core.Path.{_≡_, refl, ap, _∙_}
 use Prim.Native.Nat.{ℕ}
 use lib.ListN.{length}
 use Rattle.samples.specs.declared.Answer.the-variants.{BadLength}
-use Rattle.samples.proofs.Laws.{need-of, is-accepted, accept-no}
+use Rattle.samples.proofs.Laws.{need-of, let-by, new-made, old-left}
 use Rattle.hadamard.specs.Mix.{mixed, quarter, judgedSample}
 use Rattle.hadamard.proofs.Laws.{sixteen}
 use Rattle.hadamard.proofs.mix_sample.Statement.{statement}
@@ -21,9 +21,7 @@ judged c = need-of BadLength (c .before .need .ensures) (c .before .before .and 
 both : (c : tie.Then1) →
     let a = c .before .before .before .before .before .before .args in
     (length (a .x .now) ≡ 16) × (length (a .y .now) ≡ 16)
-both c =
-    let s = c .before in
-    sixteen _ _ (sym (judged s) ∙ is-accepted (s .before .need .result) (sym (s .is-accepted .ensures) ∙ c .if1 .taken))
+both c = let s = c .before in sixteen _ _ (let-by (judged s) (s .is-accepted .ensures) (c .if1 .taken))
 
 and-requires : tie.Need-and-requires
 and-requires c κs = search needs
@@ -45,14 +43,13 @@ returns c =
     let t = c .before .before .before .before in
     let s = t .before in
     let a = s .before .before .before .before .before .args in
-    let ok = is-accepted (s .before .need .result) (sym (s .is-accepted .ensures) ∙ t .if1 .taken) in
-    (judged s, rw ok (c .before .before .mix-column .ensures ∙ ap (λ (n : ℕ). mixed n quarter (a .x .now)) (both t .0)))
+    let made = c .before .before .mix-column .ensures ∙ ap (λ (n : ℕ). mixed n quarter (a .x .now)) (both t .0) in
+    (judged s, new-made {a = s .before .need .result} refl (s .is-accepted .ensures) _ (t .if1 .taken) made)
 
 returns-2 : tie.Need-returns-2
 returns-2 c =
     let s = c .before in
-    let a = s .before .before .before .before .before .args in
-    (judged s, sym (accept-no (s .before .need .result) (mixed 16 quarter (a .x .now)) (a .y .now) (sym (s .is-accepted .ensures) ∙ c .if1 .left)))
+    (judged s, old-left {a = s .before .need .result} refl (s .is-accepted .ensures) _ _ (c .if1 .left))
 
 pub mix-sample-spec : {M : Type 1} → statement M
 mix-sample-spec =

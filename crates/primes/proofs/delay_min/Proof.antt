@@ -1,6 +1,6 @@
 -- `primes::delay_min` meets its contract. Assumes nothing.
 use borrow.Author.Needs.{needs}
-use Rattle.bands.proofs.Laws.{granted}
+use Rattle.samples.proofs.Laws.{let-by}
 use Rattle.primes.proofs.Laws.{value-yes, value-no, min-of}
 use Rattle.primes.proofs.delay_min.Statement.{statement}
 use Rattle.primes.proofs.delay_min.Tie as tie
@@ -12,7 +12,7 @@ is-accepted-requires : tie.Need-is-accepted-requires
 is-accepted-requires c κs = search needs
 
 least-requires : tie.Need-least-requires
-least-requires c κs = let k = min-of _ _ (granted (c .before .before .judge-min .ensures) (c .before .is-accepted .ensures) (c .if1 .taken)) in (k .time, k .rates .hi)
+least-requires c κs = let k = min-of _ _ (let-by (c .before .before .judge-min .ensures) (c .before .is-accepted .ensures) (c .if1 .taken)) in (k .time, k .rates .hi)
 
 returns : tie.Need-returns
 returns c = let b = c .before in value-yes (b .before .before .judge-min .ensures) (b .before .is-accepted .ensures) _ _ (b .if1 .taken) (c .least .ensures .0)

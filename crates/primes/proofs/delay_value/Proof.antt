@@ -1,7 +1,7 @@
 -- `primes::delay_value` meets its contract. Assumes nothing.
 use borrow.Author.Needs.{needs}
 use Prim.Native.Nat.{_<_}
-use Rattle.bands.proofs.Laws.{granted}
+use Rattle.samples.proofs.Laws.{let-by}
 use Rattle.primes.proofs.Laws.{value-yes, value-no, Timed, value-of}
 use Rattle.primes.proofs.delay_value.Statement.{statement}
 use Rattle.primes.proofs.delay_value.Tie as tie
@@ -13,7 +13,7 @@ is-accepted-requires : tie.Need-is-accepted-requires
 is-accepted-requires c κs = search needs
 
 known : (c : tie.Then1) → let a = c .before .before .before .args in Timed (a .time) (a .rate) × (a .index < 16)
-known c = value-of _ _ _ (granted (c .before .before .judge-value .ensures) (c .before .is-accepted .ensures) (c .if1 .taken))
+known c = value-of _ _ _ (let-by (c .before .before .judge-value .ensures) (c .before .is-accepted .ensures) (c .if1 .taken))
 
 least-requires : tie.Need-least-requires
 least-requires c κs = let k = known c .0 in (k .time, k .rates .hi)

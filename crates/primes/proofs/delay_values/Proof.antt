@@ -4,9 +4,7 @@ use mathlib.Core.Path.{_≡_}
 use lib.ListN.{length}
 use denote.Ref.{now}
 use borrow.Author.Tests.{not-true, not-false}
-use Rattle.samples.specs.declared.Answer.the-variants.{Accepted}
-use Rattle.bands.proofs.Laws.{granted, refused}
-use Rattle.primes.specs.Values.{judgedValues}
+use Rattle.samples.proofs.Laws.{let-by, new-made, old-left}
 use Rattle.primes.proofs.Laws.{Timed, values-of}
 use Rattle.primes.proofs.delay_values.Statement.{statement}
 use Rattle.primes.proofs.delay_values.Tie as tie
@@ -19,14 +17,11 @@ is-accepted-requires c κs = search needs
 
 returns : tie.Need-returns
 returns c =
-    let j = c .before .before .judge-values in
-    (j .ensures, refused _ _ (j .ensures) (c .before .is-accepted .ensures) (not-true _ (c .if1 .taken)))
-
-yes : (c : tie.Else1) → let a = c .before .before .before .before .before .args in judgedValues (a .time) (a .rate) (length (now (a .randoms))) (length (now (a .out))) ≡ Accepted
-yes c = granted (c .before .before .judge-values .ensures) (c .before .is-accepted .ensures) (not-false _ (c .if1 .left))
+    let e = c .before .before .judge-values .ensures in
+    (e, old-left e (c .before .is-accepted .ensures) _ _ (not-true _ (c .if1 .taken)))
 
 known : (c : tie.Else1) → let a = c .before .before .before .before .before .args in Timed (a .time) (a .rate) × (length (now (a .randoms)) ≡ 16) × (length (now (a .out)) ≡ 16)
-known c = let a = c .before .before .before .before .before .args in values-of (a .time) (a .rate) (length (now (a .randoms))) (length (now (a .out))) (yes c)
+known c = values-of _ _ _ _ (let-by (c .before .before .judge-values .ensures) (c .before .is-accepted .ensures) (not-false _ (c .if1 .left)))
 
 least-requires : tie.Need-least-requires
 least-requires c κs = let k = known c .0 in (k .time, k .rates .hi)
@@ -41,7 +36,9 @@ returns-2 : tie.Need-returns-2
 returns-2 c =
     let s = c .before .before in
     let l = s .before .before in
-    (l .before .before .before .judge-values .ensures, rw (yes (l .before)) (rw (l .least .ensures .0) at (s .set-values .ensures)))
+    let tested = l .before in
+    let e = tested .before .before .judge-values .ensures in
+    (e, new-made e (tested .before .is-accepted .ensures) _ (not-false _ (tested .if1 .left)) (rw (l .least .ensures .0) at (s .set-values .ensures)))
 
 pub delay-values-spec : {M : Type 1} → statement M
 delay-values-spec =

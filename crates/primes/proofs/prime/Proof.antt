@@ -1,6 +1,6 @@
 -- `primes::prime` meets its contract. Assumes nothing.
 use borrow.Author.Needs.{needs}
-use Rattle.bands.proofs.Laws.{granted}
+use Rattle.samples.proofs.Laws.{let-by}
 use Rattle.primes.proofs.Laws.{value-yes, value-no, index-of}
 use Rattle.primes.proofs.prime.Statement.{statement}
 use Rattle.primes.proofs.prime.Tie as tie
@@ -12,7 +12,7 @@ is-accepted-requires : tie.Need-is-accepted-requires
 is-accepted-requires c κs = search needs
 
 prime-at-requires : tie.Need-prime-at-requires
-prime-at-requires c κs = index-of _ (granted (c .before .before .judge-index .ensures) (c .before .is-accepted .ensures) (c .if1 .taken))
+prime-at-requires c κs = index-of _ (let-by (c .before .before .judge-index .ensures) (c .before .is-accepted .ensures) (c .if1 .taken))
 
 returns : tie.Need-returns
 returns c = let b = c .before in value-yes (b .before .before .judge-index .ensures) (b .before .is-accepted .ensures) _ _ (b .if1 .taken) (c .prime-at .ensures)

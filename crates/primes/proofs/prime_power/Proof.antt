@@ -1,6 +1,6 @@
 -- `primes::prime_power` meets its contract. Assumes nothing.
 use borrow.Author.Needs.{needs}
-use Rattle.bands.proofs.Laws.{granted}
+use Rattle.samples.proofs.Laws.{let-by}
 use Rattle.primes.proofs.Laws.{value-yes, value-no, power-of}
 use Rattle.primes.proofs.prime_power.Statement.{statement}
 use Rattle.primes.proofs.prime_power.Tie as tie
@@ -12,7 +12,7 @@ is-accepted-requires : tie.Need-is-accepted-requires
 is-accepted-requires c κs = search needs
 
 power-at-requires : tie.Need-power-at-requires
-power-at-requires c κs = power-of _ _ (granted (c .before .before .judge-power .ensures) (c .before .is-accepted .ensures) (c .if1 .taken))
+power-at-requires c κs = power-of _ _ (let-by (c .before .before .judge-power .ensures) (c .before .is-accepted .ensures) (c .if1 .taken))
 
 returns : tie.Need-returns
 returns c = let b = c .before in value-yes (b .before .before .judge-power .ensures) (b .before .is-accepted .ensures) _ _ (b .if1 .taken) (c .power-at .ensures)

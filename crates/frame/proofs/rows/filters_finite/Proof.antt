@@ -2,8 +2,8 @@
 use borrow.Author.Needs.{needs}
 use native.Mathlib.Omega.{arith}
 use mathlib.Core.Path.{_≡_, refl}
-use Prim.Native.Nat.{_-_, _≤_, _<_}
-use lib.ListN.{length, take}
+use Prim.Native.Nat.{_-_, _≤_}
+use lib.ListN.{take}
 use Rattle.samples.specs.Lists.{allFrom}
 use Rattle.samples.proofs.Laws.{all-more, all-end}
 use Rattle.iir.specs.Nine.{finiteFilter}
@@ -41,17 +41,11 @@ loop-less c = search needs
 loop-again : tie.Need-loop-again Inv-loop μ-loop
 loop-again c =
     let at = c .before .before .before .before in
-    let xs = at .before .args .t1 in
-    let h : at .loop .i < length xs = search needs in
-    (omega arith, all-more (λ k f. finiteFilter f) xs (at .loop .i) _ (at .loop .ok) _ _ h (at .loop .inv .1) (c .before .is-finite .ensures) (c .and .ensures))
+    (omega arith, all-more _ (at .before .args .t1) (at .loop .i) _ _ _ _ (search needs) (at .loop .inv .1) (c .before .is-finite .ensures) (c .and .ensures))
 
 returns : tie.Need-returns Inv-loop μ-loop
 unfolding filtersFinite
-returns c =
-    let at = c .before in
-    let xs = at .before .args .t1 in
-    let h : length xs ≤ at .loop .i = search needs in
-    all-end (λ k f. finiteFilter f) xs (at .loop .i) (at .loop .ok) (at .loop .inv .1) h
+returns c = let at = c .before in all-end _ (at .before .args .t1) (at .loop .i) _ (at .loop .inv .1) (search needs)
 
 pub filters-finite-spec : {M : Type 1} → statement M
 filters-finite-spec =

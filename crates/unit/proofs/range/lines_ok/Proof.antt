@@ -2,8 +2,8 @@
 use borrow.Author.Needs.{needs}
 use native.Mathlib.Omega.{arith}
 use mathlib.Core.Path.{_≡_, refl, ap, _∙_}
-use Prim.Native.Nat.{ℕ, _+_, _-_, _≤_, _<_}
-use lib.ListN.{length, take, getD}
+use Prim.Native.Nat.{ℕ, _+_, _-_, _≤_}
+use lib.ListN.{take, getD}
 use Rattle.samples.specs.Lists.{allFrom}
 use Rattle.samples.proofs.Laws.{all-more, all-end}
 use Rattle.delay.specs.Calls.{both}
@@ -46,16 +46,11 @@ loop-again : tie.Need-loop-again Inv-loop μ-loop
 loop-again c =
     let at = c .before .before .before .before .before in
     let xs = at .before .args .t1 in
-    let h : at .loop .i < length xs = search needs in
-    (omega arith, all-more (λ i c. below (delayAt i + at .before .args .frame) c) xs (at .loop .i) (both 0) (at .loop .ok) _ _ h (at .loop .inv .1) (c .before .below .ensures ∙ ap (λ (l : ℕ). below (l + at .before .args .frame) (getD xs (at .loop .i) (both 0))) (c .before .before .delay .ensures)) (c .and .ensures))
+    (omega arith, all-more _ xs (at .loop .i) _ _ _ _ (search needs) (at .loop .inv .1) (c .before .below .ensures ∙ ap (λ (l : ℕ). below (l + at .before .args .frame) (getD xs (at .loop .i) (both 0))) (c .before .before .delay .ensures)) (c .and .ensures))
 
 returns : tie.Need-returns Inv-loop μ-loop
 unfolding linesOk
-returns c =
-    let at = c .before in
-    let xs = at .before .args .t1 in
-    let h : length xs ≤ at .loop .i = search needs in
-    all-end (λ i c. below (delayAt i + at .before .args .frame) c) xs (at .loop .i) (at .loop .ok) (at .loop .inv .1) h
+returns c = let at = c .before in all-end _ (at .before .args .t1) (at .loop .i) _ (at .loop .inv .1) (search needs)
 
 pub lines-ok-spec : {M : Type 1} → statement M
 lines-ok-spec =

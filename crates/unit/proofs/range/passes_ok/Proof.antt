@@ -2,8 +2,8 @@
 use borrow.Author.Needs.{needs}
 use native.Mathlib.Omega.{arith}
 use mathlib.Core.Path.{_≡_, refl, ap, _∙_}
-use Prim.Native.Nat.{ℕ, _-_, _≤_, _<_}
-use lib.ListN.{length, take, getD}
+use Prim.Native.Nat.{ℕ, _-_, _≤_}
+use lib.ListN.{take, getD}
 use Rattle.samples.specs.Lists.{allFrom}
 use Rattle.samples.proofs.Laws.{all-more, all-end}
 use native.Mathlib.Nat.{add-zero}
@@ -50,16 +50,11 @@ loop-again : tie.Need-loop-again Inv-loop μ-loop
 loop-again c =
     let at = c .before .before .before .before in
     let xs = at .before .args .t1 in
-    let h : at .loop .i < length xs = search needs in
-    (omega arith, all-more (λ i c. below (getD (wall .passes) i 0) c) xs (at .loop .i) (both 0) (at .loop .ok) _ _ h (at .loop .inv .1) (c .before .below .ensures ∙ ap (λ (l : ℕ). below l (getD xs (at .loop .i) (both 0))) (add-zero (getD (wall .passes) (at .loop .i) 0))) (c .and .ensures))
+    (omega arith, all-more _ xs (at .loop .i) _ _ _ _ (search needs) (at .loop .inv .1) (c .before .below .ensures ∙ ap (λ (l : ℕ). below l (getD xs (at .loop .i) (both 0))) (add-zero (getD (wall .passes) (at .loop .i) 0))) (c .and .ensures))
 
 returns : tie.Need-returns Inv-loop μ-loop
 unfolding passesOk
-returns c =
-    let at = c .before in
-    let xs = at .before .args .t1 in
-    let h : length xs ≤ at .loop .i = search needs in
-    all-end (λ i c. below (getD (wall .passes) i 0) c) xs (at .loop .i) (at .loop .ok) (at .loop .inv .1) h
+returns c = let at = c .before in all-end _ (at .before .args .t1) (at .loop .i) _ (at .loop .inv .1) (search needs)
 
 pub passes-ok-spec : {M : Type 1} → statement M
 passes-ok-spec =
