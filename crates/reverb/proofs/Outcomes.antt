@@ -1,10 +1,10 @@
--- The two ways on from a judgement: what a call that is let by or refused gives. Assumes nothing.
-use mathlib.Core.Path.{_≡_, sym, ap, _∙_}
+-- The two ways on from a judgement, by the test of a refusal: what a call that is let by or refused gives. Assumes nothing.
+use mathlib.Core.Path.{_≡_, refl, sym, ap, _∙_}
 use mathlib.Core.Bool.{Bool, true, false, not}
 use borrow.Author.Tests.{not-true, not-false}
 use Rattle.samples.specs.declared.Answer.{Answer}
 use Rattle.samples.specs.Answers.{accept, accepted}
-use Rattle.samples.proofs.Laws.{accept-yes, accept-no}
+use Rattle.samples.proofs.Laws as laws
 
 -- `a` is the answer given, which is the judgement b, and `ok` what the test of it said
 module _ (a b : Answer) (ok : Bool) (e : a ≡ b) (t : ok ≡ accepted a) where
@@ -12,10 +12,10 @@ module _ (a b : Answer) (ok : Bool) (e : a ≡ b) (t : ok ≡ accepted a) where
   refused h = ap accepted (sym e) ∙ sym t ∙ not-true ok h
 
   pub let-by : not ok ≡ false → accepted b ≡ true
-  let-by h = ap accepted (sym e) ∙ sym t ∙ not-false ok h
+  let-by h = ap accepted (laws.let-by e t (not-false ok h))
 
   pub old-left : {A : Type 0} (new old : A) → not ok ≡ true → old ≡ accept b new old
-  old-left new old h = sym (accept-no b new old (refused h))
+  old-left new old h = laws.old-left e t new old (not-true ok h)
 
   pub new-left : {A : Type 0} (new old : A) → not ok ≡ false → new ≡ accept b new old
-  new-left new old h = sym (accept-yes b new old (let-by h))
+  new-left new old h = laws.new-made e t old (not-false ok h) refl

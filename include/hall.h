@@ -1,0 +1,258 @@
+/* hall.h - the C face of the reverb: sixteen delay lines, a mixing matrix, filters, two allpasses.
+ *
+ * Link with libhall.a. The library keeps nothing and allocates nothing: the caller lends all memory, and
+ * holds the unit's state, which each call takes by value and hands back in its answer. One frame of F
+ * samples goes in, one comes out. A call is made whole (hall_apply, hall_tail) or as 34 jobs (hall_open_..,
+ * hall_job_.., hall_close), which give the same, bit for bit, in any order that the rules below allow.
+ *
+ * A whole example: one click, then the tail until it has died away.
+ *
+ *     #include "hall.h"
+ *     #include <stdio.h>
+ *
+ *     enum { RATE = 48000, FRAME = 128 };
+ *     static float store[HALL_STORE(FRAME)], work[HALL_WORK(FRAME)];
+ *     static float coefficients[HALL_COEFFICIENTS], input[FRAME], output[FRAME];
+ *
+ *     static void play(void) { printf("%g\n", (double)output[0]); }
+ *
+ *     int main(void) {
+ *         for (size_t k = 0; k < 51; k++)            // every filter lets its input pass,
+ *             coefficients[5 * k + 2] = 1.0f;
+ *         for (size_t line = 0; line < 16; line++)   // but band 0 of each line halves it
+ *             coefficients[15 * line + 2] = 0.5f;
+ *
+ *         hall_answer a = hall_fresh(RATE, FRAME, store, HALL_STORE(FRAME));
+ *         if (a.number != 0) return 1;
+ *
+ *         input[0] = 1.0f;
+ *         a = hall_apply(a.state, 0.1f, 0.1f, 0.1f, coefficients, HALL_COEFFICIENTS, input, FRAME,
+ *                        store, HALL_STORE(FRAME), work, HALL_WORK(FRAME), output, FRAME);
+ *         if (a.number != 0) return 1;
+ *         play();
+ *         while (a.remaining) {
+ *             a = hall_tail(a.state, store, HALL_STORE(FRAME), work, HALL_WORK(FRAME), output, FRAME);
+ *             if (a.number != 0) return 1;
+ *             play();
+ *         }
+ *         return 0;
+ *     }
+ *
+ * THE NUMBER OF AN ANSWER. The lowest number that applies is given. A refused call hands the state back as it
+ * was given and leaves every lent slice as it was, 9 aside.
+ *
+ *   0  accepted.
+ *   1  a field of the state (or of a ring's cursors) is out of range. The state isn't one that these calls gave
+ *      for this library's HALL_VERSION: begin again with hall_fresh.
+ *   2  the rate isn't in 8,000 to 192,000, or the frame no multiple of 4 in 4 to 1,024. Choose others.
+ *   3  a lent slice hasn't its exact length. The lengths stand at each call; a slice that is too long is
+ *      refused too.
+ *   4  a number of the request is out of range: line above 15; a ring's n of 0 or above its length; channels
+ *      0 or above 16; samples above 65,536; channel not below the channels; x above 200,000; index above 15.
+ *   5  out of turn: a job, close or abandon with no frame open; anything else with one open; a job done before,
+ *      or not ready. Make the missing jobs first, or hall_abandon.
+ *   6  a time isn't finite or not in 0 to 100.
+ *   7  a coefficient isn't finite. Design the filters again.
+ *   8  an input sample isn't finite; `index` says which is the first. Mute it and ask again.
+ *   9  the frame would keep or hand out a number that isn't finite. The state is the one from before the frame,
+ *      store and output are unchanged, work is all +0. Play silence. With gentler coefficients or input the
+ *      next frame may be accepted. A 9 that repeats comes from the sound kept in the lines: every later frame
+ *      would be refused as well, so call hall_reset.
+ *
+ * `index` is 0 but with 8. `remaining` is true when hall_apply, hall_tail or hall_close was accepted and the
+ * tail has frames left; else false.
+ *
+ * WHAT IS NOT ALLOWED. Every function takes any values of its numbers, all 64 bits of an index too. Four things
+ * it can't see, and the caller must not do: lend slices that overlap, a misaligned pointer, NULL with a count
+ * above 0 (an empty slice may be NULL), or a bool whose byte is neither 0 nor 1. A state in use must not be
+ * changed between calls; one that was changed is refused only where a field is out of range.
+ *
+ * A slice is a pointer and a count of floats, not of bytes. A const slice is never written. A state is 4,056
+ * bytes and an answer 4,080, by value: leave room for a few of them on the stack. The layouts below are those
+ * of x86-64.
+ */
+#ifndef HALL_H
+#define HALL_H
+
+#include <stdbool.h>
+#include <stddef.h>
+#include <stdint.h>
+
+#ifdef __cplusplus
+extern "C" {
+#endif
+
+/* Changes whenever a struct or a function below does. A state may only go to the version that gave it. */
+#define HALL_VERSION 1
+
+/* The floats to lend for frames of F samples, and for the filters. */
+#define HALL_STORE(F) (7600 + 16 * (size_t)(F))
+#define HALL_WORK(F) (34 * (size_t)(F) + 1348)
+#define HALL_COEFFICIENTS 255
+
+/* A ring's two cursors, in samples, each below the ring's length. */
+typedef struct {
+    size_t read, write;
+} hall_cursors;
+
+/* A filter: out = (((b0*x + b1*x1) + b2*x2) - a1*y1) - a2*y2, then x2 = x1, x1 = x, y2 = y1, y1 = out. */
+typedef struct {
+    float a1, a2, b0, b1, b2, x1, x2, y1, y2;
+} hall_filter;
+
+/* A unit between two calls. Only `rate`, `frame` and `count` are of use to a host; keep the rest as it is. */
+typedef struct {
+    uint32_t rate;
+    size_t frame;                         /* F */
+    hall_cursors lines[16], passes[4];    /* the lines; the allpass rings x0, y0, x1, y1 */
+    int32_t count;                        /* frames of tail left */
+    hall_filter filters[51];              /* line i band b at 3i + b, then tone 0 to 2 */
+    bool busy, tail, marks[34];           /* a frame is open; it is a tail; jobs done: read, mix, line, output */
+    int32_t next;                         /* the count that close sets */
+    hall_filter before[51];               /* the filters from before the open */
+} hall_state;
+
+/* The number above; the first bad sample of an 8; the verdict; the state to go on with. */
+typedef struct {
+    uint32_t number;
+    size_t index;
+    bool remaining;
+    hall_state state;
+} hall_answer;
+
+typedef struct {
+    uint32_t number;
+    hall_cursors cursors;
+} hall_ring_answer;
+
+typedef struct {
+    uint32_t number;
+    hall_cursors cursors;
+    float x[4];
+} hall_four_answer;
+
+/* A refused call's value is 0. */
+typedef struct {
+    uint32_t number;
+    uint32_t value;
+} hall_value;
+
+/* ---- Whole frames. Store is HALL_STORE(F) floats, work HALL_WORK(F), input and output F. ----
+ * The store is kept from call to call. Work may hold anything before a call and is all +0 after one that was
+ * accepted. */
+
+/* A unit with silent lines and no filters. Answers 2, 3; refused, the state is that of rate 8,000 and F 4. */
+hall_answer hall_fresh(uint32_t rate, size_t frame, float *store, size_t store_len);
+
+/* Silences all lines and rings and sets the count to 0; cursors and filters stay, so that a tail right after it
+ * still uses the old filters. Answers 1, 3, 5. */
+hall_answer hall_reset(hall_state s, float *store, size_t store_len);
+
+/* One frame with sound. t0 to t2 are the reverb times of the three bands in seconds, 0 to 100. The coefficients
+ * are a1, a2, b0, b1, b2 of each of the 51 filters, in the order of `filters`; the filters begin the frame with
+ * no history. Answers 1, 3, 5 to 9. */
+hall_answer hall_apply(hall_state s, float t0, float t1, float t2, const float *coefficients, size_t coefficients_len,
+                       const float *input, size_t input_len, float *store, size_t store_len, float *work,
+                       size_t work_len, float *output, size_t output_len);
+
+/* One frame of tail, with the filters of the last apply and their history. Answers 1, 3, 5, 9. */
+hall_answer hall_tail(hall_state s, float *store, size_t store_len, float *work, size_t work_len, float *output,
+                      size_t output_len);
+
+/* ---- The same as jobs. ----
+ * Open, then the 34 jobs, then close. Read 0 to 15, once each, in any order; the mix once, after all reads;
+ * line 0 to 15, once each, after the mix; output once, after all reads (it need not wait for the mix). Close
+ * comes after all 34. Store, output, cursors and count change at close and not before; the work memory carries
+ * the frame and must not be touched until then. A refused job changes nothing, so it may be asked for again. */
+
+/* Answers 1, 3, 5 to 8. */
+hall_answer hall_open_apply(hall_state s, float t0, float t1, float t2, const float *coefficients,
+                            size_t coefficients_len, const float *input, size_t input_len, const float *store,
+                            size_t store_len, float *work, size_t work_len);
+
+/* Answers 1, 3, 5. */
+hall_answer hall_open_tail(hall_state s, const float *store, size_t store_len, float *work, size_t work_len);
+
+/* Answers 1, 3, 4, 5. */
+hall_answer hall_job_read(hall_state s, size_t line, const float *store, size_t store_len, float *work,
+                          size_t work_len);
+
+/* Answers 1, 3, 5. */
+hall_answer hall_job_mix(hall_state s, float *work, size_t work_len);
+
+/* Answers 1, 3, 4, 5. */
+hall_answer hall_job_line(hall_state s, size_t line, float *work, size_t work_len);
+
+/* Answers 1, 3, 5. */
+hall_answer hall_job_output(hall_state s, float *work, size_t work_len);
+
+/* Answers 1, 3, 5, 9; the verdict is the frame's. After a 9 no frame is open. */
+hall_answer hall_close(hall_state s, float *store, size_t store_len, float *work, size_t work_len, float *output,
+                       size_t output_len);
+
+/* Gives up an open frame: the state is that from before the open, work is all +0. Answers 1, 3, 5. */
+hall_answer hall_abandon(hall_state s, float *work, size_t work_len);
+
+/* ---- A ring alone, of 1 to 65,536 samples of any floats. ----
+ * Get n before put n, and what comes out was put in one ring's length earlier. n is the length of the other
+ * slice, 1 to the ring's. All answer 3 for the ring's length, then 1 for its cursors; get and put 4 for n.
+ * Refused, the cursors are those given and x is four +0. */
+
+hall_ring_answer hall_ring_get(const float *ring, size_t ring_len, hall_cursors c, float *out, size_t out_len);
+hall_ring_answer hall_ring_put(float *ring, size_t ring_len, hall_cursors c, const float *xs, size_t xs_len);
+
+/* Four samples at once, on a ring of any length: below 4, get4 repeats samples and the last of put4's wins. */
+hall_four_answer hall_ring_get4(const float *ring, size_t ring_len, hall_cursors c);
+hall_ring_answer hall_ring_put4(float *ring, size_t ring_len, hall_cursors c, float x0, float x1, float x2, float x3);
+
+/* Silences the ring; the cursors stay. */
+hall_ring_answer hall_ring_reset(float *ring, size_t ring_len, hall_cursors c);
+
+/* ---- A filter and the mix alone, on any floats. ---- */
+
+/* Filters the samples in place and hands back the filter with its new history. Never refused. */
+hall_filter hall_filter_run(hall_filter f, float *xs, size_t xs_len);
+
+/* y[r] is the sum of x[0] to x[15], x[c] with a minus where r AND c has an odd count of ones, times 0.25.
+ * Answers 3 unless both slices have 16 floats. */
+uint32_t hall_mix16(const float *x, size_t x_len, float *y, size_t y_len);
+
+/* ---- Delay values, by sixteen primes: index 0 is 2, index 15 is 53. ---- */
+
+/* The whole part of 0.15 * time * rate / 16. Answers 2, 6. */
+hall_value hall_delay_min(float time, uint32_t rate);
+
+/* The power of the prime that is nearest to x in ratio, x at most 200,000; 1 for x = 0. Answers 4. */
+hall_value hall_prime_power(uint32_t x, size_t index);
+
+/* The power that is nearest to hall_delay_min + (random mod 101). Answers 2, 4, 6. */
+hall_value hall_delay_value(float time, uint32_t rate, uint16_t random, size_t index);
+
+/* ---- Buffers of 1 to 16 channels, 0 to 65,536 samples each, channel after channel, of any floats. ----
+ * A slice is channels times samples long, the output of downmix samples long. All answer 4 for the counts,
+ * then 3 for a length; downmix answers 3 for its output's length first where `samples` is in range. */
+
+uint32_t hall_interleave(size_t channels, size_t samples, const float *buffer, size_t buffer_len, float *target,
+                         size_t target_len);
+uint32_t hall_deinterleave(size_t channels, size_t samples, const float *source, size_t source_len, float *buffer,
+                           size_t buffer_len);
+uint32_t hall_make_silent(size_t channels, size_t samples, float *buffer, size_t buffer_len);
+uint32_t hall_scale(size_t channels, size_t samples, float volume, float *buffer, size_t buffer_len);
+
+/* Adds the buffer to the other one. */
+uint32_t hall_buffer_mix(size_t channels, size_t samples, const float *buffer, size_t buffer_len, float *other,
+                         size_t other_len);
+
+/* The mean of the channels: their sum in order, times 1 / channels. */
+uint32_t hall_downmix(size_t channels, size_t samples, const float *buffer, size_t buffer_len, float *output,
+                      size_t output_len);
+
+/* 0 if `channel` lies in a buffer of `length` floats, where it begins at channel * samples. Answers 4 for the
+ * counts, 3 for the length, 4 for the channel. */
+uint32_t hall_channel_number(size_t channels, size_t samples, size_t channel, size_t length);
+
+#ifdef __cplusplus
+}
+#endif
+
+#endif

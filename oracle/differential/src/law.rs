@@ -1,0 +1,137 @@
+//! Document 01's table of numbers and its sizes: which number a call is answered with before any sound is made. The
+//! Rust has no such numbers, so this rests on document 01 alone.
+
+use crate::world::{Reply, Request, World};
+use hall::{Cursors, Filter, State};
+
+/// > D = 225, 341, 441, 556; line i has length D[i mod 4] + F.
+pub fn line_length(line: usize, frame: usize) -> usize {
+    [225, 341, 441, 556][line % 4] + frame
+}
+
+/// > Allpass stage 0: x ring 225, y ring 341. Stage 1: x ring 341, y ring 441.
+pub const PASSES: [usize; 4] = [225, 341, 341, 441];
+
+/// > Store: exactly 7,600 + 16F floats.
+pub fn store_length(frame: usize) -> usize {
+    7_600 + 16 * frame
+}
+
+/// > Work: exactly 34F + 1,348.
+pub fn work_length(frame: usize) -> usize {
+    34 * frame + 1_348
+}
+
+/// The places of the store's rings: sixteen lines, then four allpass rings.
+pub fn ring_ranges(frame: usize) -> Vec<std::ops::Range<usize>> {
+    let lengths = (0..16).map(|line| line_length(line, frame)).chain(PASSES);
+    let mut start = 0;
+    lengths
+        .map(|length| {
+            start += length;
+            start - length..start
+        })
+        .collect()
+}
+
+pub fn rate_ok(rate: u32) -> bool {
+    (8_000..=192_000).contains(&rate)
+}
+
+pub fn frame_ok(frame: usize) -> bool {
+    frame.is_multiple_of(4) && (4..=1_024).contains(&frame)
+}
+
+pub fn time_ok(time: f32) -> bool {
+    time.is_finite() && (0.0..=100.0).contains(&time)
+}
+
+/// > It is in range when rate and F are, every cursor is below its ring's length, and, while no frame is open, all that
+/// > is held for one is blank: kind apply, no job marked, count 0, filters all +0.
+pub fn in_range(s: &State) -> bool {
+    let below = |c: &Cursors, length: usize| c.read < length && c.write < length;
+    rate_ok(s.rate)
+        && frame_ok(s.frame)
+        && (0..16).all(|line| below(&s.lines[line], line_length(line, s.frame)))
+        && (0..4).all(|pass| below(&s.passes[pass], PASSES[pass]))
+        && (s.busy || blank(s))
+}
+
+fn blank(s: &State) -> bool {
+    let zero = |filter: &Filter| filter.iter().all(|x| x.to_bits() == 0);
+    !s.tail && s.next == 0 && !s.marks.contains(&true) && s.before.iter().all(zero)
+}
+
+/// The reply that is due before any work is done; number 0 if none of 1 to 8 is.
+pub fn judged(world: &World, request: Request) -> Reply {
+    let s = &world.state;
+    let number = if !in_range(s) {
+        1
+    } else if !lengths_ok(world, request) {
+        3
+    } else if matches!(request, Request::Read(16..) | Request::Line(16..)) {
+        4
+    } else if !in_turn(s, request) {
+        5
+    } else {
+        return judged_given(world, request);
+    };
+    Reply::plain(number)
+}
+
+/// Each slice that the call is lent has its exact length, by the state's F.
+fn lengths_ok(world: &World, request: Request) -> bool {
+    let frame = world.state.frame;
+    let exact = [255, frame, store_length(frame), work_length(frame), frame];
+    let lent = lent(request);
+    (0..5).all(|k| !lent[k] || world.slices()[k].len() == exact[k])
+}
+
+/// Which of coefficients, input, store, work and output a call is lent.
+pub fn lent(request: Request) -> [bool; 5] {
+    match request {
+        Request::Apply(_) => [true; 5],
+        Request::OpenApply(_) => [true, true, true, true, false],
+        Request::Tail | Request::Close => [false, false, true, true, true],
+        Request::OpenTail | Request::Read(_) => [false, false, true, true, false],
+        Request::Reset => [false, false, true, false, false],
+        Request::Mix | Request::Line(_) | Request::Output | Request::Abandon => [false, false, false, true, false],
+    }
+}
+
+/// > Read i: once each. Mix: once, after all 16 reads. Line i: once each, after the mix. Output: once, after all 16
+/// > reads. Close: after all 34. With a frame open, open, whole calls and reset are answered 5; with none, jobs, close and
+/// > abandon are.
+fn in_turn(s: &State, request: Request) -> bool {
+    let done = |jobs: std::ops::Range<usize>| s.marks[jobs].iter().all(|mark| *mark);
+    match request {
+        Request::Read(line) => s.busy && !s.marks[line],
+        Request::Mix => s.busy && !s.marks[16] && done(0..16),
+        Request::Line(line) => s.busy && !s.marks[17 + line] && s.marks[16],
+        Request::Output => s.busy && !s.marks[33] && done(0..16),
+        Request::Close => s.busy && done(0..34),
+        Request::Abandon => s.busy,
+        Request::Reset | Request::Apply(_) | Request::Tail | Request::OpenApply(_) | Request::OpenTail => !s.busy,
+    }
+}
+
+/// 6, 7 and 8: times, coefficients and input of an apply.
+fn judged_given(world: &World, request: Request) -> Reply {
+    let (Request::Apply(times) | Request::OpenApply(times)) = request else {
+        return Reply::plain(0);
+    };
+    if !times.iter().all(|time| time_ok(*time)) {
+        return Reply::plain(6);
+    }
+    if !world.coefficients.iter().all(|x| x.is_finite()) {
+        return Reply::plain(7);
+    }
+    match world.input.iter().position(|x| !x.is_finite()) {
+        None => Reply::plain(0),
+        Some(index) => Reply {
+            number: 8,
+            index,
+            remaining: false,
+        },
+    }
+}

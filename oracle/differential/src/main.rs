@@ -1,0 +1,104 @@
+//! Plays libhall.a and the published Rust side by side and compares every bit. It ends at the first difference.
+
+mod dice;
+mod expected;
+mod law;
+mod report;
+mod rust_unit;
+mod sounds;
+mod spoil;
+mod step;
+mod trials;
+mod world;
+
+use dice::Dice;
+use report::{Check, Difference, Journal};
+use std::panic::{AssertUnwindSafe, catch_unwind};
+use std::process::ExitCode;
+
+const USAGE: &str = "differential [--trials N] [--seed S] [--only TRIAL] [--frames N]
+
+--trials N     how many trials (2000)
+--seed S       the seed of all of them (1)
+--only TRIAL   one trial alone, to look at a difference again
+--frames N     after the trials, units of every class of frames that live through N accepted frames together";
+
+/// What was asked for on the command line.
+struct Plan {
+    trials: u64,
+    seed: u64,
+    only: Option<u64>,
+    frames: u64,
+}
+
+fn main() -> ExitCode {
+    let Some(plan) = plan() else {
+        eprintln!("{USAGE}");
+        return ExitCode::from(2);
+    };
+    let mut journal = Journal::default();
+    match play(&plan, &mut journal) {
+        Ok(trials) => {
+            println!("{}", journal.summary());
+            println!("differential: {trials} trials");
+            ExitCode::SUCCESS
+        }
+        Err(Difference(place)) => {
+            println!("difference: {place}");
+            ExitCode::FAILURE
+        }
+    }
+}
+
+/// Reads the command line.
+fn plan() -> Option<Plan> {
+    let mut plan = Plan {
+        trials: 2_000,
+        seed: 1,
+        only: None,
+        frames: 0,
+    };
+    let mut words = std::env::args().skip(1);
+    while let Some(word) = words.next() {
+        let number = words.next()?.replace('_', "").parse().ok()?;
+        match word.as_str() {
+            "--trials" => plan.trials = number,
+            "--seed" => plan.seed = number,
+            "--only" => plan.only = Some(number),
+            "--frames" => plan.frames = number,
+            _ => return None,
+        }
+    }
+    Some(plan)
+}
+
+/// All that was asked for; how many trials that was.
+fn play(plan: &Plan, journal: &mut Journal) -> Result<u64, Difference> {
+    let trials = match plan.only {
+        Some(trial) => trial..trial + 1,
+        None => 0..plan.trials,
+    };
+    guarded("all powers of primes", journal, trials::all_powers)?;
+    for trial in trials.clone() {
+        let mut dice = Dice::new(plan.seed, trial);
+        let place = format!("trial {trial}, seed {}", plan.seed);
+        guarded(&place, journal, |journal| trials::trial(&mut dice, trial, journal))?;
+    }
+    let mut dice = Dice::new(plan.seed, u64::MAX);
+    let place = format!("long run, seed {}", plan.seed);
+    guarded(&place, journal, |journal| {
+        trials::long_run(&mut dice, journal, plan.frames)
+    })?;
+    Ok(trials.count() as u64)
+}
+
+/// Says of a difference, and of a panic, where it was.
+fn guarded(place: &str, journal: &mut Journal, run: impl FnOnce(&mut Journal) -> Check) -> Check {
+    match catch_unwind(AssertUnwindSafe(|| run(journal))) {
+        Ok(check) => check.map_err(|Difference(what)| Difference(format!("{place}, {what}"))),
+        Err(_) => Err(Difference(format!(
+            "{place}, {}: panicked, as said above",
+            journal.place()
+        ))),
+    }
+}
