@@ -1,6 +1,6 @@
 -- The two ways on from a judgement, by the test of a refusal: what a call that is let by or refused gives. Assumes nothing.
 use mathlib.Core.Path.{_≡_, refl, sym, ap, _∙_}
-use mathlib.Core.Bool.{Bool, true, false, not}
+use mathlib.Core.Bool.{Bool, true, false, not, cond}
 use borrow.Author.Tests.{not-true, not-false}
 use Rattle.samples.specs.declared.Answer.{Answer}
 use Rattle.samples.specs.Answers.{accept, accepted}
@@ -19,3 +19,10 @@ module _ (a b : Answer) (ok : Bool) (e : a ≡ b) (t : ok ≡ accepted a) where
 
   pub new-left : {A : Type 0} (new old : A) → not ok ≡ false → new ≡ accept b new old
   new-left new old h = laws.new-made e t old (not-false ok h) refl
+
+-- what is left where a test is refused, and where it is passed
+pub when-not : {A : Type 0} (ok : Bool) (r new old : A) → not ok ≡ true → r ≡ old → r ≡ cond ok new old
+when-not ok r new old h e = rw (not-true ok h) e
+
+pub when : {A : Type 0} (ok : Bool) (r new old : A) → not ok ≡ false → r ≡ new → r ≡ cond ok new old
+when ok r new old h e = rw (not-false ok h) e

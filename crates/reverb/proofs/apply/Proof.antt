@@ -47,9 +47,10 @@ returns c =
     let shut = refused _ due _ e (tested .is-accepted .ensures) (c .before .if1 .taken) in
     all-as-was u due _ (applyFrame wall u (now (a .coefficients)) (now (a .input)) (now (a .store))) (applyCount u (a .t)) _ (now (a .store)) (now (a .work)) (now (a .output)) shut e (c .quiet .ensures)
 
--- what the judgement has let by
-through :
-    (p : lts.Else1 (
+-- a call that the judgement has let by
+abbrev Passed : Type 0
+Passed =
+    lts.Else1 (
       judge-apply-reads.Asked,
       judge-apply-reads.Learnt,
       is-accepted-reads.Asked,
@@ -65,29 +66,16 @@ through :
       whole-frame-reads.Asked,
       whole-frame-reads.Learnt,
     )
-    reads.Pre reads.Post)
+    reads.Pre reads.Post
+
+through :
+    (p : Passed)
     → let a = p .before .before .before .before .before .before .before .before .args in
     accepted (judgedApply wall (ofState (a .s)) (a .t) (now (a .coefficients)) (now (a .input)) (length (now (a .store))) (length (now (a .work))) (length (now (a .output)))) ≡ true
 through p = let judged = p .before .before in let-by _ _ _ (judged .judge-apply .ensures) (p .before .is-accepted .ensures) (p .if1 .left)
 
 fits :
-    (p : lts.Else1 (
-      judge-apply-reads.Asked,
-      judge-apply-reads.Learnt,
-      is-accepted-reads.Asked,
-      is-accepted-reads.Learnt,
-      quiet-reads.Asked,
-      quiet-reads.Learnt,
-      tail-count-reads.Asked,
-      tail-count-reads.Learnt,
-      filters-of-reads.Asked,
-      filters-of-reads.Learnt,
-      copy-reads.Asked,
-      copy-reads.Learnt,
-      whole-frame-reads.Asked,
-      whole-frame-reads.Learnt,
-    )
-    reads.Pre reads.Post)
+    (p : Passed)
     → let a = p .before .before .before .before .before .before .before .before .args in
     ApplyFits (ofState (a .s)) (a .t) (length (now (a .coefficients))) (length (now (a .input))) (length (now (a .store))) (length (now (a .work))) (length (now (a .output)))
 fits p =

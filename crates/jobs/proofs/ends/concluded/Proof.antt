@@ -1,22 +1,14 @@
 -- `jobs::ends::concluded` meets its contract. Assumes nothing.
 use borrow.Author.Needs.{needs}
-use mathlib.Core.Path.{_≡_, ap, _∙_}
-use mathlib.Core.Bool.{Bool, true, false, not, cond}
-use borrow.Author.Tests.{not-true, not-false}
+use mathlib.Core.Path.{ap, _∙_}
 use Rattle.samples.specs.declared.Answer.the-variants.{Accepted, NotFinite}
 use Rattle.audio_buffer.specs.declared.AudioEffectState.the-variants.{TailComplete}
 use Rattle.unit.specs.declared.State.{State}
 use Rattle.unit.specs.Hall.{ofState}
 use Rattle.reverb.specs.Whole.{outcome}
+use Rattle.reverb.proofs.Outcomes.{when, when-not}
 use Rattle.jobs.proofs.ends.concluded.Statement.{statement}
 use Rattle.jobs.proofs.ends.concluded.Tie as tie
-
--- what is left where a test is refused, and where it is passed
-when-not : {A : Type 0} (ok : Bool) (r new old : A) → not ok ≡ true → r ≡ old → r ≡ cond ok new old
-when-not ok r new old h e = rw (not-true ok h) e
-
-when : {A : Type 0} (ok : Bool) (r new old : A) → not ok ≡ false → r ≡ new → r ≡ cond ok new old
-when ok r new old h e = rw (not-false ok h) e
 
 shut-requires : tie.Need-shut-requires
 shut-requires c κs = search needs

@@ -1,21 +1,12 @@
 -- `reverb::units::conclude` meets its contract. Assumes nothing.
 use borrow.Author.Needs.{needs}
-use mathlib.Core.Path.{_≡_}
-use mathlib.Core.Bool.{Bool, true, false, not, cond}
-use borrow.Author.Tests.{not-true, not-false}
 use Rattle.samples.specs.declared.Answer.the-variants.{Accepted}
+use Rattle.reverb.proofs.Outcomes.{when, when-not}
 use Rattle.reverb.proofs.units.conclude.Statement.{statement}
 use Rattle.reverb.proofs.units.conclude.Tie as tie
 
 quiet-requires : tie.Need-quiet-requires
 quiet-requires c κs = search needs
-
--- what is left where a test is refused, and where it is passed
-when-not : {A : Type 0} (ok : Bool) (r new old : A) → not ok ≡ true → r ≡ old → r ≡ cond ok new old
-when-not ok r new old h e = rw (not-true ok h) e
-
-when : {A : Type 0} (ok : Bool) (r new old : A) → not ok ≡ false → r ≡ new → r ≡ cond ok new old
-when ok r new old h e = rw (not-false ok h) e
 
 returns : tie.Need-returns
 returns c = when-not (c .before .before .before .args .frame .ok) _ _ _ (c .before .if1 .taken) (c .quiet .ensures)
