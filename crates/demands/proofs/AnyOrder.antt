@@ -20,7 +20,7 @@ use Rattle.frame.specs.Frame.{Frame, newFilters}
 use Rattle.frame.specs.Settle.{frameFinite, nineOf, settled, settledIn}
 use Rattle.reverb.specs.Whole.{after as played, wholeAnswer, wholeUnit, wholeStore, wholeOutput, wholeWork}
 use Rattle.turns.specs.Marks.{allDone}
-use Rattle.lines.specs.Rows.{Rows, rowsOf}
+use Rattle.rows.specs.Rows.{Rows, rowsOf}
 use Rattle.turns.specs.Turns.{judgedClose}
 use Rattle.jobs.specs.Play.{Play, countFor, frameFor, wholeDue}
 use Rattle.lines.specs.Parts.{rowsFinite}

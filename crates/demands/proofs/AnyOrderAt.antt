@@ -19,7 +19,7 @@ use Rattle.frame.specs.Frame.{Frame, frameOf, frameFrom, passesIn, lineRows}
 use Rattle.frame.proofs.RowLaws.{Held, length-readRows, length-bandEnds}
 use Rattle.frame.proofs.FrameLaws.{put-beside, out-long}
 use Rattle.turns.specs.Marks.{mixMark, lineMark, outputMark}
-use Rattle.lines.specs.Rows.{row, Rows, rowsOf, joined}
+use Rattle.rows.specs.Rows.{row, Rows, rowsOf, joined}
 use Rattle.demands.specs.Jobs.{Memory}
 use Rattle.demands.proofs.LineRings.{row-long, lines-held}
 use Rattle.demands.proofs.AnyOrderRows.{stacked, length-stacked}

@@ -21,7 +21,7 @@ use Rattle.frame.specs.Passes.{passEnd}
 use Rattle.frame.specs.Frame.{stretch, stageAt, ringsOf, lineRows, outputRow}
 use Rattle.frame.proofs.RowLaws.{byBands, peel, length-plus, length-bandRows}
 use Rattle.frame.proofs.Stages.{pass-rings}
-use Rattle.lines.specs.Rows.{row}
+use Rattle.rows.specs.Rows.{row}
 use Rattle.demands.proofs.AnyOrderRows.{getD-row}
 
 -- ---- rows of lines

@@ -15,20 +15,30 @@ use Rattle.iir.specs.declared.Bands.{Bands}
 use Rattle.iir.specs.declared.Filter.{Filter}
 use Rattle.iir.specs.Runs.{bandsOut, bandsEnd}
 use Rattle.hadamard.specs.Rows.{mixedRows}
+use Rattle.unit.specs.Hall.{Hall}
 use Rattle.unit.specs.Model.{Model}
 use Rattle.unit.specs.Sizes.{lineLengths, jobsLen}
 use Rattle.frame.specs.Lines.{noFilter, three, threeOf, plus}
-use Rattle.frame.specs.Frame.{Frame, frameFrom, passesIn, lineRows, newFilters}
+use Rattle.frame.specs.Frame.{Frame, OutputRow, frameFrom, passesIn, lineRows, newFilters}
 use Rattle.turns.specs.Marks.{mixMark, lineMark, outputMark, allDone}
-use Rattle.lines.specs.Rows.{row, setRow, Rows, rowsOf, joined}
+use Rattle.rows.specs.Rows.{row, setRow, Rows, rowsOf, joined}
+use Rattle.rows.specs.Parts.{lineIn, lineLaid, lineEnds, outputIn, outputLaid, outputEnds}
 use Rattle.jobs.specs.Play.{openLaid, openWork}
-use Rattle.jobs.specs.Steps.{readRow, lineRow, outputOf, readWork, mixLaid, mixWork, lineWork, lineFilters, outputWork, outputFilters}
+use Rattle.jobs.specs.Steps.{readRow, readWork, mixLaid, mixWork, lineWork, lineFilters, outputWork, outputFilters}
 use Rattle.demands.proofs.LineRings.{read-row}
-use Rattle.demands.proofs.AnyOrderRows.{stacked, stacked-same, length-stacked, stacked-rows, stacked-all, row-stacked, row-of, set-stacked, set-of, over-row, over-end, next-row}
+use Rattle.demands.proofs.AnyOrderRows.{stacked, stacked-same, length-stacked, stacked-rows, stacked-all, row-stacked, row-of, set-stacked, set-of, over-end}
+use Rattle.rows.proofs.RowAt.{over-row, next-row}
 use Rattle.demands.proofs.AnyOrderFrame.{put-row, filters-row, three-row, output-asks, tone-long}
 use Rattle.demands.proofs.AnyOrderMarks.{at, true≢false, false-of, set-here, set-there, done-at, read-at, Legal}
 use Rattle.demands.proofs.AnyOrderAt.{Opening, frameIn, Fit, silence, readAt, mixedAt, bandsAt, outputAt, ringsAt, toneAt, rowsAt, filtersAt, unitAt}
 use Rattle.demands.proofs.AnyOrderAt.{held, reads-long, mixed-long, put-long, ends-long, read-long, mix-long, bands-long, cut}
+
+-- steps 4 and 5 of a unit
+abbrev lineRow : Hall → ℕ → Rows → List Float
+lineRow u i r = lineIn (u .frame) i (u .tail) (u .filters) r
+
+abbrev outputOf : Model → Hall → Rows → OutputRow
+outputOf m u r = outputIn m (u .frame) (u .passes) (u .filters) r
 
 module _ (m : Model) (o : Opening) (h : Fit m o) (marks : List Bool) where
   abbrev n : ℕ
@@ -188,7 +198,7 @@ module _ (m : Model) (o : Opening) (h : Fit m o) (marks : List Bool) where
           ∙ rw (mix-there-too, mark-here) refl
 
       pub line-work : lineWork m (unitAt m o marks) i (joined (rowsAt m o marks)) ≡ joined (rowsAt m o lined)
-      unfolding lineWork
+      unfolding lineLaid
       line-work =
           let set-is : setRow f i (lineRow (unitAt m o marks) i (rowsAt m o marks)) (stacked n (mixedAt m o marks)) ≡ stacked n (mixedAt m o lined) =
           ap (λ (r : List Float). setRow f i r (stacked n (mixedAt m o marks))) line-is
@@ -217,7 +227,7 @@ module _ (m : Model) (o : Opening) (h : Fit m o) (marks : List Bool) where
           ∙ rw mark-here refl
 
       pub line-filters : lineFilters m (unitAt m o marks) i (joined (rowsAt m o marks)) ≡ filtersAt m o lined
-      unfolding lineFilters
+      unfolding lineEnds
       line-filters =
           let three-i : 3 * i ≡ i * 3 = omega arith in
           let long : length (bandsAt m o lined i) ≡ 3 = bands-long m o h lined i b in
@@ -262,7 +272,7 @@ module _ (m : Model) (o : Opening) (h : Fit m o) (marks : List Bool) where
       output-cut = ap (outputOf m (unitAt m o marks)) (cut m o h marks) ∙ output-is
 
       pub output-work : outputWork m (unitAt m o marks) (joined (rowsAt m o marks)) ≡ joined (rowsAt m o out)
-      unfolding outputWork
+      unfolding outputLaid
       output-work =
           (λ t. joined (record {
             input = cut m o h marks t .input;
@@ -280,7 +290,7 @@ module _ (m : Model) (o : Opening) (h : Fit m o) (marks : List Bool) where
           }))
 
       pub output-filters : outputFilters m (unitAt m o marks) (joined (rowsAt m o marks)) ≡ filtersAt m o out
-      unfolding outputFilters frameFrom
+      unfolding outputEnds frameFrom
       output-filters =
           let tone : length (R .output .filters) ≡ 3 = tone-long n f (m .divisor) (m .passes) (o .unit .passes) (o .filters) (passesIn m f (o .store)) (R .reads) in
           let old : length (toneAt m o marks) ≡ 3 = rw undone (simp length-drop (omega (arith, h .filters))) in

@@ -21,7 +21,7 @@ use Rattle.frame.specs.Settle.{frameFinite, settled, putRows}
 use Rattle.frame.specs.Frame.{newFilters}
 use Rattle.reverb.specs.Whole.{counted, after as played, wholeAnswer, wholeUnit, wholeStore, wholeWork}
 use Rattle.turns.specs.Marks.{mixMark, lineMark, outputMark, allRead}
-use Rattle.lines.specs.Rows.{rowsOf}
+use Rattle.rows.specs.Rows.{rowsOf}
 use Rattle.turns.specs.Turns.{judgedClose}
 use Rattle.jobs.specs.Play.{Play, countFor, frameFor, wholeDue}
 use Rattle.lines.specs.Parts.{rowsFinite}

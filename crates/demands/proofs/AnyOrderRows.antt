@@ -2,16 +2,13 @@
 use Prim.Native.Nat.{ℕ, zero, suc, _+_, _*_, _<_, _≤_}
 use mathlib.Core.Path.{_≡_, refl, sym, ap, _∙_}
 use mathlib.Core.List.{List, [], _++_, append-nil, append-assoc}
-use native.Mathlib.Nat.{zero-add, zero-mul, suc-mul, add-comm, not-suc-le-zero}
+use native.Mathlib.Nat.{zero-mul, not-suc-le-zero}
 use native.Mathlib.Omega.{arith}
 use lib.ListN.{length, getD, take, drop, length-append, drop-of-length-le}
-use lib.Seq.{take-at, drop-at, take-add, take-all, drop-drop, getD-take, getD-drop}
+use lib.Seq.{take-at, drop-at, take-add, take-all, getD-take, getD-drop}
 use Rattle.samples.specs.Lists.{over}
-use Rattle.lines.specs.Rows.{row, setRow}
-
--- one row more
-pub next-row : (n f : ℕ) → suc n * f ≡ f + n * f
-next-row n f = suc-mul n f ∙ add-comm (n * f) f
+use Rattle.rows.specs.Rows.{row, setRow}
+use Rattle.rows.proofs.RowAt.{next-row, row-at}
 
 module _ {A : Type 0} where
   -- n rows: g 0, then g 1, and so on
@@ -80,20 +77,8 @@ module _ {A : Type 0} where
 
     -- ---- a row by where it begins
 
-    pub row-at : (i : ℕ) (xs : List A) → row f i xs ≡ take f (drop (i * f) xs)
-    row-at zero xs = rw zero-mul refl
-    row-at (suc i) xs = row-at i (drop f xs) ∙ rw (drop-drop, next-row) refl
-
     pub getD-row : (i k : ℕ) (xs : List A) (d : A) → k < f → getD (row f i xs) k d ≡ getD xs (i * f + k) d
-    getD-row i k xs d h = rw (row-at i xs, getD-take f (drop (i * f) xs) k d h, getD-drop) refl
-
-    pub over-row : (i : ℕ) (r xs : List A) → length r ≡ f → over (i * f) r xs ≡ setRow f i r xs
-    unfolding over setRow
-    over-row zero r xs e = rw (zero-mul, zero-add, e) refl
-    over-row (suc i) r xs e =
-        let k : f + i * f + length r ≡ f + (i * f + length r) = omega arith in
-        rw (next-row, take-add f (i * f) xs, k, ← drop-drop (i * f + length r) f xs, append-assoc)
-        (ap (λ (l : List A). take f xs ++ l) (over-row i r (drop f xs) e))
+    getD-row i k xs d h = rw (row-at f i xs, getD-take f (drop (i * f) xs) k d h, getD-drop) refl
 
   -- the last rows of all, from k on
   pub over-end : (k : ℕ) (r xs ys : List A) → length xs ≡ k → length ys ≡ length r → over k r (xs ++ ys) ≡ xs ++ r

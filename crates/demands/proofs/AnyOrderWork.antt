@@ -9,7 +9,7 @@ use lib.ListN.{length, take, drop, length-append, take-append-drop}
 use lib.Seq.{take-at, drop-at, drop-drop}
 use Rattle.unit.specs.Model.{Model}
 use Rattle.unit.specs.Sizes.{total, workLen}
-use Rattle.lines.specs.Rows.{Rows, rowsOf, joined}
+use Rattle.rows.specs.Rows.{Rows, rowsOf, joined}
 
 -- rows of a frame of f as long as they are to be
 pub record Long (m : Model) (f : ℕ) (r : Rows) : Type 0 where

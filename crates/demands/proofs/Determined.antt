@@ -171,8 +171,8 @@ use Rattle.turns.proofs.judge_abandon.Kinds as turns-judge-abandon-kinds
 use Rattle.turns.proofs.judge_abandon.Reads as turns-judge-abandon-reads
 use Rattle.lines.proofs.close_frame.Kinds as lines-close-frame-kinds
 use Rattle.lines.proofs.close_frame.Reads as lines-close-frame-reads
-use Rattle.lines.proofs.make_output.Kinds as lines-make-output-kinds
-use Rattle.lines.proofs.make_output.Reads as lines-make-output-reads
+use Rattle.rows.proofs.make_output.Kinds as rows-make-output-kinds
+use Rattle.rows.proofs.make_output.Reads as rows-make-output-reads
 use Rattle.reverb.proofs.quiet.Kinds as reverb-quiet-kinds
 use Rattle.reverb.proofs.quiet.Reads as reverb-quiet-reads
 use Rattle.reverb.proofs.fallen.Kinds as reverb-fallen-kinds
@@ -494,11 +494,11 @@ lines-close-frame-work κs a x y s t p q = p .1 .1 .0 ∙ sym (q .1 .1 .0)
 pub lines-close-frame-output : OneExit 3 lines-close-frame-kinds.ps lines-close-frame-kinds.r lines-close-frame-reads.Post (λ κs s. s .1 .1 .1 .1 .1 .1 .0 .now)
 lines-close-frame-output κs a x y s t p q = p .1 .1 .1 ∙ sym (q .1 .1 .1)
 
-pub lines-make-output : OneResult 1 lines-make-output-kinds.ps lines-make-output-kinds.r lines-make-output-reads.Post
-lines-make-output κs a x y s t p q = p .0 ∙ sym (q .0)
+pub rows-make-output : OneResult 1 rows-make-output-kinds.ps rows-make-output-kinds.r rows-make-output-reads.Post
+rows-make-output κs a x y s t p q = p .0 ∙ sym (q .0)
 
-pub lines-make-output-work : OneExit 1 lines-make-output-kinds.ps lines-make-output-kinds.r lines-make-output-reads.Post (λ κs s. s .1 .1 .1 .0 .now)
-lines-make-output-work κs a x y s t p q = p .1 ∙ sym (q .1)
+pub rows-make-output-work : OneExit 1 rows-make-output-kinds.ps rows-make-output-kinds.r rows-make-output-reads.Post (λ κs s. s .1 .1 .1 .0 .now)
+rows-make-output-work κs a x y s t p q = p .1 ∙ sym (q .1)
 
 -- ---- reverb
 

@@ -20,7 +20,7 @@ use Rattle.unit.specs.Sizes.{jobsLen}
 use Rattle.unit.specs.Range.{inRange}
 use Rattle.unit.specs.Judges.{storeOk, workOk}
 use Rattle.turns.specs.Marks.{mixMark, lineMark, outputMark, allDone, allRead}
-use Rattle.lines.specs.Rows.{joined}
+use Rattle.rows.specs.Rows.{joined}
 use Rattle.jobs.specs.Play.{Play}
 use Rattle.demands.specs.Jobs.{Memory, Job, readJob, mixJob, lineJob, outputJob, markOf}
 use Rattle.demands.specs.Calls.{start, job, answer, after}

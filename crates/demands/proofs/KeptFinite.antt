@@ -27,7 +27,7 @@ use Rattle.unit.specs.Judges.{judgedFresh, judgedReset}
 use Rattle.frame.specs.Frame.{Frame, newFilters}
 use Rattle.frame.specs.Settle.{filtersFinite, frameFinite, nineOf, putRows, settledIn}
 use Rattle.reverb.specs.Whole.{wholeAnswer, wholeUnit, wholeStore}
-use Rattle.lines.specs.Rows.{Rows, rowsOf}
+use Rattle.rows.specs.Rows.{Rows, rowsOf}
 use Rattle.turns.specs.Turns.{judgedClose}
 use Rattle.jobs.specs.Play.{frameFor, wholeDue}
 use Rattle.lines.specs.Parts.{rowsFinite}

@@ -29,7 +29,7 @@ use Rattle.frame.specs.Frame.{frameFrom, newFilters}
 use Rattle.frame.specs.Settle.{nineOf, settled, settledIn, allMoved, putRows}
 use Rattle.reverb.specs.Whole.{after as played, counted, wholeAnswer, wholeUnit, wholeStore}
 use Rattle.turns.specs.Marks.{marked, mixMark, lineMark, outputMark}
-use Rattle.lines.specs.Rows.{row, rowsOf}
+use Rattle.rows.specs.Rows.{row, rowsOf}
 use Rattle.turns.specs.Turns.{judgedClose}
 use Rattle.jobs.specs.Play.{Play, apply, tail, countFor, frameFor, wholeDue, opened}
 use Rattle.jobs.specs.Steps.{markedUnit, readRow}

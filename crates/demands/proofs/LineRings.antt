@@ -16,7 +16,8 @@ use Rattle.unit.specs.Sizes.{lengthsFrom, lineLengths, total}
 use Rattle.frame.specs.Lines.{readRows}
 use Rattle.frame.specs.Settle.{putRows, movedBy, allMoved}
 use Rattle.frame.proofs.RowLaws.{Held, total-more}
-use Rattle.lines.specs.Rows.{row, ringAt}
+use Rattle.rows.specs.Rows.{row}
+use Rattle.lines.specs.Rings.{ringAt}
 
 -- the line after i of those from j on is line i of those from j + 1 on
 on : (j i : ℕ) → j + suc i ≡ j + 1 + i

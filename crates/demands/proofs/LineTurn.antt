@@ -18,7 +18,8 @@ use Rattle.unit.specs.Model.{Model}
 use Rattle.unit.specs.Sizes.{lineLengths, storeLen, workLen}
 use Rattle.frame.specs.Settle.{putRows, movedBy, allMoved}
 use Rattle.frame.proofs.RowLaws.{Held}
-use Rattle.lines.specs.Rows.{row, setRow, ringAt, Rows, rowsOf}
+use Rattle.rows.specs.Rows.{row, setRow, Rows, rowsOf}
+use Rattle.lines.specs.Rings.{ringAt}
 use Rattle.jobs.specs.Steps.{readRow, readWork}
 use Rattle.demands.proofs.Lent.{Lent, cursors, within}
 use Rattle.demands.proofs.LineRings.{row-long, ring-long, put-row, lines-long, line-length, lines-held}

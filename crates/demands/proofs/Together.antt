@@ -14,7 +14,7 @@ use Rattle.unit.specs.Fresh.{freshHall}
 use Rattle.unit.specs.Judges.{judgedFresh, judgedReset}
 use Rattle.frame.specs.Settle.{allMoved}
 use Rattle.reverb.specs.Whole.{wholeUnit}
-use Rattle.lines.specs.Rows.{rowsOf}
+use Rattle.rows.specs.Rows.{rowsOf}
 use Rattle.turns.specs.Turns.{judgedClose}
 use Rattle.jobs.specs.Close.{nineOfRows, closeUnit}
 use Rattle.demands.specs.Jobs.{Memory}

@@ -10,7 +10,7 @@ use Rattle.audio_buffer.specs.Verdict.{verdictOf}
 use Rattle.unit.specs.Model.{Model}
 use Rattle.unit.specs.Judges.{judgedReset}
 use Rattle.reverb.specs.Whole.{resetUnit, resetStore, wholeAnswer, wholeUnit, wholeStore, wholeOutput, wholeWork}
-use Rattle.lines.specs.Rows.{rowsOf}
+use Rattle.rows.specs.Rows.{rowsOf}
 use Rattle.turns.specs.Turns.{judgedClose, judgedAbandon}
 use Rattle.jobs.specs.Play.{Play, countFor, inputFor, frameFor, wholeDue, openDue, opened, openWork}
 use Rattle.jobs.specs.Steps.{markedUnit}

@@ -15,7 +15,7 @@ use Rattle.unit.specs.Hall.{Hall}
 use Rattle.unit.specs.Model.{Model}
 use Rattle.unit.specs.Judges.{judgedFresh}
 use Rattle.unit.specs.Sizes.{Sized}
-use Rattle.lines.specs.Rows.{row, rowsOf}
+use Rattle.rows.specs.Rows.{row, rowsOf}
 use Rattle.jobs.specs.Play.{Play, frameFor}
 use Rattle.demands.specs.Jobs.{Memory, Job, readJob, mixJob, lineJob, outputJob, jobWork}
 use Rattle.demands.specs.Calls.{Call, reset, whole, start, job, close, abandon, answer, after}

@@ -14,7 +14,7 @@ use Rattle.unit.specs.Model.{wall}
 use Rattle.unit.specs.Sizes.{lineLengths}
 use Rattle.frame.specs.Settle.{putRows}
 use Rattle.lines.specs.declared.Stepped.{Stepped}
-use Rattle.lines.specs.Rows.{Rows}
+use Rattle.rows.specs.Rows.{Rows}
 use Rattle.lines.specs.Parts.{rowsFinite}
 use Rattle.lines.specs.Steps.{ended, endedStore, endedWork, endedOutput}
 use Rattle.reverb.specs.declared.Outcome.{Outcome}

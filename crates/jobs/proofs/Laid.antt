@@ -2,36 +2,41 @@
 use mathlib.Core.Path.{_≡_, refl, sym, ap, _∙_}
 use mathlib.Core.Bool.{Bool, true}
 use mathlib.Core.List.{List, _++_, append-assoc}
-use Prim.Native.Nat.{ℕ, _+_, _*_, _-_}
+use Prim.Native.Nat.{ℕ, _+_, _*_, _-_, _<_}
 use native.Mathlib.Omega.{arith}
 use lib.Ieee.{Float}
-use lib.ListN.{length, take, drop, length-append, length-take, length-drop}
+use lib.ListN.{length, getD, take, drop, length-append, length-take, length-drop}
 use lib.Seq.{length-take-le}
 use borrow.Rule.Slice.PartMut.{putMid}
 use Rattle.samples.specs.declared.Answer.{Answer}
-use Rattle.samples.specs.declared.Answer.the-variants.{Accepted}
-use Rattle.samples.specs.Answers.{accept}
+use Rattle.samples.specs.declared.Answer.the-variants.{Accepted, BadState, BadLength, BadIndex, OutOfTurn}
+use Rattle.samples.specs.Answers.{accept, need}
 use Rattle.samples.specs.Sizes.{rateOk, frameOk}
-use Rattle.samples.proofs.Laws.{split-and, join-and}
+use Rattle.samples.proofs.Laws.{split-and, join-and, needed}
 use Rattle.samples.proofs.Turns.{middle}
 use Rattle.hadamard.specs.Rows.{judgedRows, rowsMixed, mixedRows}
 use Rattle.hadamard.proofs.Laws.{rows-accepted, rows-joined}
+use Rattle.delay.specs.Calls.{both}
 use Rattle.iir.specs.declared.Filter.{Filter}
 use Rattle.unit.specs.Hall.{Hall}
 use Rattle.unit.specs.Model.{wall}
-use Rattle.unit.specs.Judges.{workOk}
-use Rattle.lines.specs.Work.{OutputFits}
-use Rattle.lines.specs.Rows.{rowsOf, joined}
-use Rattle.lines.specs.Parts.{workFor, outputLaid, outputEnds}
-use Rattle.lines.proofs.RowsOf.{all-rows}
+use Rattle.unit.specs.Sizes.{storeLen}
+use Rattle.unit.specs.Range.{inRange, linesOk}
+use Rattle.unit.specs.Judges.{judged, workOk}
+use Rattle.rows.specs.Rows.{rowsOf, joined}
+use Rattle.rows.specs.Fits.{workFor, WorkFits}
+use Rattle.rows.specs.Parts.{lineLaid, lineEnds, outputLaid, outputEnds}
+use Rattle.rows.proofs.RowsOf.{all-rows}
+use Rattle.lines.specs.Parts.{readLaid}
+use Rattle.lines.proofs.ReadLaid.{read-given}
 use Rattle.reverb.proofs.Fits.{Due}
-use Rattle.jobs.specs.Steps.{mixLaid, outputWork, outputFilters}
+use Rattle.jobs.specs.Steps.{readWork, mixLaid, lineWork, lineFilters, outputWork, outputFilters}
 
 -- an accepted job's work memory is one of its unit's frames
 pub work-for : (u : Hall) (work : ℕ) → Due u (workOk wall u work) → workFor wall (u .frame) work ≡ true
 work-for u work d = join-and (split-and (rateOk (u .rate)) (frameOk (u .frame)) (d .sizes) .1) (d .lent)
 
-module _ (f : ℕ) (w : List Float) (h : OutputFits wall f (length w)) where
+module _ (f : ℕ) (w : List Float) (h : WorkFits wall f (length w)) where
   abbrev k : ℕ
   k = 16 * f
 
@@ -64,12 +69,33 @@ module _ (f : ℕ) (w : List Float) (h : OutputFits wall f (length w)) where
       e .1 ∙ rw (ok, m .0, rows-joined 16 f (wall .factor) reads mixed (omega arith) length-reads length-mixed) refl in
       m .1 x ∙ rw (new, append-assoc) refl
 
--- the output's job
+-- ---- a job that was let by found room
+
 module _ (u : Hall) (work : List Float) (room : Bool) (e : room ≡ true) where
   pub output-work : (work′ : List Float) → work′ ≡ outputLaid wall (u .frame) (u .passes) (u .filters) room work → work′ ≡ outputWork wall u work
-  unfolding outputLaid outputWork
   output-work work′ q = q ∙ rw e refl
 
   pub output-ends : (gs : List Filter) → gs ≡ outputEnds wall (u .frame) (u .passes) (u .filters) room work → gs ≡ outputFilters wall u work
-  unfolding outputEnds outputFilters
   output-ends gs q = q ∙ rw e refl
+
+  module _ (i : ℕ) where
+    pub line-work : (work′ : List Float) → work′ ≡ lineLaid wall (u .frame) i (u .tail) (u .filters) room work → work′ ≡ lineWork wall u i work
+    line-work work′ q = q ∙ rw e refl
+
+    pub line-ends : (gs : List Filter) → gs ≡ lineEnds wall (u .frame) i (u .filters) room work → gs ≡ lineFilters wall u i work
+    line-ends gs q = q ∙ rw e refl
+
+    -- the ring of line i gives a whole row
+    pub read-work : (store work′ : List Float) → i < 16 → length store ≡ storeLen wall (u .frame) → WorkFits wall (u .frame) (length work)
+        → linesOk wall (u .frame) (u .lines) ≡ true
+        → work′ ≡ readLaid wall (u .frame) i (getD (u .lines) i (both 0)) room store work → work′ ≡ readWork wall u i store work
+    unfolding readLaid readWork
+    read-work store work′ h ls fits all q = q ∙ rw (e, read-given (u .frame) i store work h ls fits (u .lines) all) refl
+
+-- a job is let by for a line of the unit's alone
+pub line-of : (u : Hall) (lengths line turn : Bool) → judged wall u lengths line turn ≡ Accepted → line ≡ true
+unfolding judged
+line-of u lengths line turn e =
+    let p = needed (inRange wall u) BadState (need lengths BadLength (need line BadIndex (need turn OutOfTurn Accepted))) refl e in
+    let q = needed lengths BadLength (need line BadIndex (need turn OutOfTurn Accepted)) refl (p .1) in
+    needed line BadIndex (need turn OutOfTurn Accepted) refl (q .1) .0

@@ -19,23 +19,23 @@ use Rattle.unit.specs.Sizes.{lineLengths, total, storeLen}
 use Rattle.unit.specs.Judges.{storeOk, workOk}
 use Rattle.frame.specs.Steps.{copied}
 use Rattle.frame.proofs.RowLaws.{copied-all}
-use Rattle.lines.specs.Work.{OutputFits}
-use Rattle.lines.specs.Rows.{joined}
+use Rattle.rows.specs.Fits.{WorkFits}
+use Rattle.rows.specs.Rows.{joined}
 use Rattle.lines.proofs.RowJoins.{copy-join}
-use Rattle.lines.proofs.RowsOf.{output-fits}
+use Rattle.rows.proofs.RowsOf.{work-fits}
 use Rattle.reverb.proofs.Fits.{Due}
 use Rattle.jobs.specs.Play.{openLaid}
 
 -- an accepted open is lent a store and a work memory of its unit's frames
 pub record OpenFits (f store work : ℕ) : Type 0 where
-  pub fits : OutputFits wall f work
+  pub fits : WorkFits wall f work
   pub rings : store ≡ storeLen wall f
 
 pub open-fits : (u : Hall) (store work : ℕ) → Due u (storeOk wall u store && workOk wall u work) → OpenFits (u .frame) store work
 open-fits u store work d =
     let l = split-and (storeOk wall u store) (workOk wall u work) (d .lent) in
     let frame = split-and (rateOk (u .rate)) (frameOk (u .frame)) (d .sizes) .1 in
-    record { fits = output-fits (u .frame) work (join-and frame (l .1)); rings = eqb-true _ _ (l .0) }
+    record { fits = work-fits (u .frame) work (join-and frame (l .1)); rings = eqb-true _ _ (l .0) }
 
 -- 34 rows of +0, by their kinds
 rows-of-zeros : (f : ℕ) (rings : List Float)
@@ -61,7 +61,7 @@ unfolding storeLen
 lines-before f store e = sym e
 
 -- the rings copied to the end of a work memory that is all +0
-pub begin-laid : (f : ℕ) (store w x : List Float) (n : ℕ) → OutputFits wall f n → length store ≡ storeLen wall f → w ≡ replicate n +0
+pub begin-laid : (f : ℕ) (store w x : List Float) (n : ℕ) → WorkFits wall f n → length store ≡ storeLen wall f → w ≡ replicate n +0
     → let b = 34 * f in
     let a = length store - (length w - b) in
     x ≡ copied (take (length store - a) (drop a store)) (take (length w - b) (drop b w))

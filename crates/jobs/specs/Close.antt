@@ -19,7 +19,7 @@ use Rattle.unit.specs.Model.{Model}
 use Rattle.unit.specs.Sizes.{lineLengths, filtersLen, jobsLen}
 use Rattle.unit.specs.Fresh.{blank}
 use Rattle.frame.specs.Settle.{putRows, allMoved}
-use Rattle.lines.specs.Rows.{Rows}
+use Rattle.rows.specs.Rows.{Rows}
 use Rattle.lines.specs.Parts.{rowsFinite}
 
 abbrev pub nineOfRows : List Filter → Rows → Answer

@@ -18,7 +18,7 @@ use Rattle.frame.specs.Frame.{Frame, passesIn}
 use Rattle.frame.specs.Settle.{fallen}
 use Rattle.reverb.specs.Whole.{applyFrame, applyCount, tailFrame}
 use Rattle.jobs.specs.Held.{holding}
-use Rattle.lines.specs.Rows.{laid}
+use Rattle.rows.specs.Rows.{laid}
 use Rattle.turns.specs.Turns.{judgedOpenApply, judgedOpenTail}
 
 -- an apply with its times, coefficients and input, or a tail

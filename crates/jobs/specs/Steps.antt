@@ -1,24 +1,22 @@
 -- The jobs: "After an accepted job its own rows (read i; all mixed; mixed i; output and work rings) and its filters hold exactly what steps 2
 -- to 5 give from the state, store and work handed to that job; every other work float and, its mark aside, the rest of the state are
 -- unchanged."
-use Prim.Native.Nat.{ℕ, _*_}
-use mathlib.Core.Bool.{true, cond}
+use Prim.Native.Nat.{ℕ}
+use mathlib.Core.Bool.{true}
 use mathlib.Core.List.{List}
 use lib.Ieee.{Float}
 use lib.ListN.{getD, set}
-use Rattle.samples.specs.Lists.{over}
 use Rattle.delay.specs.Calls.{both}
 use Rattle.delay.specs.Ring.{read}
 use Rattle.hadamard.specs.Rows.{mixedRows}
 use Rattle.iir.specs.declared.Filter.{Filter}
-use Rattle.iir.specs.Runs.{bandsOut, bandsEnd}
 use Rattle.unit.specs.Hall.{Hall}
 use Rattle.unit.specs.Model.{Model}
 use Rattle.unit.specs.Sizes.{lineLengths}
-use Rattle.frame.specs.Lines.{three, threeOf, plus}
-use Rattle.frame.specs.Frame.{OutputRow, outputRow}
+use Rattle.rows.specs.Rows.{setRow, rowsOf, laid}
+use Rattle.rows.specs.Parts.{lineLaid, lineEnds, outputLaid, outputEnds}
+use Rattle.lines.specs.Rings.{ringAt}
 use Rattle.jobs.specs.Held.{holding}
-use Rattle.lines.specs.Rows.{row, setRow, ringAt, Rows, rowsOf, laid}
 
 -- the unit with the job of mark k done, and its filters then
 abbrev pub markedUnit : Hall → ℕ → List Filter → Hall
@@ -42,30 +40,16 @@ mixLaid m f work =
 abbrev pub mixWork : Model → Hall → List Float → List Float
 mixWork m u work = mixLaid m (u .frame) work
 
--- step 4 of line i, "bands and input, no put": its three filters are those from 3 i on, and a tail adds no input
-abbrev pub lineRow : Hall → ℕ → Rows → List Float
-lineRow u i r =
-    let out = bandsOut (three (3 * i) (u .filters)) (row (u .frame) i (r .mixed)) in
-    cond (u .tail) out (plus out (r .input))
+-- step 4 of line i, "bands and input, no put": its row, and its three filters
+abbrev pub lineWork : Model → Hall → ℕ → List Float → List Float
+lineWork m u i work = lineLaid m (u .frame) i (u .tail) (u .filters) true work
 
-unfoldable pub lineWork : Model → Hall → ℕ → List Float → List Float
-lineWork m u i work =
-    let r = rowsOf m (u .frame) work in
-    laid (r .input) (r .reads) (setRow (u .frame) i (lineRow u i r) (r .mixed)) (r .output) (r .rings)
+abbrev pub lineFilters : Model → Hall → ℕ → List Float → List Filter
+lineFilters m u i work = lineEnds m (u .frame) i (u .filters) true work
 
-unfoldable pub lineFilters : Model → Hall → ℕ → List Float → List Filter
-lineFilters m u i work =
-    over (3 * i) (threeOf (bandsEnd (three (3 * i) (u .filters)) (row (u .frame) i (rowsOf m (u .frame) work .mixed)))) (u .filters)
+-- step 5: the output and the allpass rings, and the tone's three filters
+abbrev pub outputWork : Model → Hall → List Float → List Float
+outputWork m u work = outputLaid m (u .frame) (u .passes) (u .filters) true work
 
--- step 5
-abbrev pub outputOf : Model → Hall → Rows → OutputRow
-outputOf m u r = outputRow (m .lines) (u .frame) (m .divisor) (m .passes) (u .passes) (u .filters) (r .rings) (r .reads)
-
-unfoldable pub outputWork : Model → Hall → List Float → List Float
-outputWork m u work =
-    let r = rowsOf m (u .frame) work in
-    laid (r .input) (r .reads) (r .mixed) (outputOf m u r .out) (outputOf m u r .rings)
-
--- the tone's three filters are those after the lines'
-unfoldable pub outputFilters : Model → Hall → List Float → List Filter
-outputFilters m u work = over (3 * m .lines) (outputOf m u (rowsOf m (u .frame) work) .filters) (u .filters)
+abbrev pub outputFilters : Model → Hall → List Float → List Filter
+outputFilters m u work = outputEnds m (u .frame) (u .passes) (u .filters) true work

@@ -15,18 +15,22 @@ use bands::Times;
 use bands::tail_count;
 use lines::close_frame;
 use lines::filters_of;
-use lines::make_output;
+use lines::read_line;
 use reverb::Outcome;
 use reverb::fallen;
 use reverb::quiet;
+use rows::make_line;
+use rows::make_output;
 use samples::clear;
 use samples::is_accepted;
 use turns::judge_abandon;
 use turns::judge_close;
+use turns::judge_line;
 use turns::judge_mix;
 use turns::judge_open_apply;
 use turns::judge_open_tail;
 use turns::judge_output;
+use turns::judge_read;
 use unit::State;
 ghost use mathlib.Core.Path.{_≡_};
 ghost use lib.ListN.{length, replicate};
@@ -35,13 +39,13 @@ ghost use Rattle.samples.specs.Binary32.{+0};
 ghost use Rattle.audio_buffer.specs.declared.AudioEffectState.the-variants.{TailComplete};
 ghost use Rattle.unit.specs.Hall.{ofState};
 ghost use Rattle.unit.specs.Model.{wall};
-ghost use Rattle.turns.specs.Marks.{mixMark, outputMark};
-ghost use Rattle.turns.specs.Turns.{judgedOpenApply, judgedOpenTail, judgedMix, judgedOutput, judgedClose, judgedAbandon};
-ghost use Rattle.lines.specs.Rows.{rowsOf};
+ghost use Rattle.turns.specs.Marks.{mixMark, lineMark, outputMark};
+ghost use Rattle.turns.specs.Turns.{judgedOpenApply, judgedOpenTail, judgedRead, judgedMix, judgedLine, judgedOutput, judgedClose, judgedAbandon};
+ghost use Rattle.rows.specs.Rows.{rowsOf};
 ghost use Rattle.reverb.specs.Whole.{outcome};
 ghost use Rattle.jobs.specs.Play as Play;
 ghost use Rattle.jobs.specs.Play.{opened, openWork};
-ghost use Rattle.jobs.specs.Steps.{markedUnit, mixWork, outputWork, outputFilters};
+ghost use Rattle.jobs.specs.Steps.{markedUnit, readWork, mixWork, lineWork, lineFilters, outputWork, outputFilters};
 ghost use Rattle.jobs.specs.Close.{shut, cleared, closeAnswer, closeUnit, closeStore, closeWork, closeOutput, closeVerdict};
 
 // Begins a frame of input, to be done as jobs.
@@ -85,6 +89,23 @@ pub fn open_tail(s: State, store: &[f32], work: &mut [f32]) -> Outcome
     quiet(answer, opened(s, true, fs, fallen(count)))
 }
 
+// Reads a frame of a line.
+pub fn job_read(s: State, line: usize, store: &[f32], work: &mut [f32]) -> Outcome
+    ensures { λ r. ⌜ r ≡ outcome (judgedRead wall (ofState s) line (length (now (store .entry))) (length (now (work .entry)))) (accept (judgedRead wall (ofState s) line (length (now (store .entry))) (length (now (work .entry)))) (markedUnit (ofState s) line (s .filters)) (ofState s)) TailComplete ⌝ }
+    ensures { λ _. ⌜ now (work .exit) ≡ accept (judgedRead wall (ofState s) line (length (now (store .entry))) (length (now (work .entry)))) (readWork wall (ofState s) line (now (store .entry)) (now (work .entry))) (now (work .entry)) ⌝ }
+{
+    let answer = judge_read(s, line, store.len(), work.len());
+    if !is_accepted(answer) {
+        return quiet(answer, s);
+    }
+    let f = s.frame;
+    let cs = s.lines;
+    let c = cs[line];
+    let fs = s.filters;
+    read_line(line, f, c, store, work);
+    quiet(answer, marked(s, line, fs))
+}
+
 // Mixes the lines read.
 pub fn job_mix(s: State, work: &mut [f32]) -> Outcome
     ensures { λ r. ⌜ r ≡ outcome (judgedMix wall (ofState s) (length (now (work .entry)))) (accept (judgedMix wall (ofState s) (length (now (work .entry)))) (markedUnit (ofState s) (mixMark wall) (s .filters)) (ofState s)) TailComplete ⌝ }
@@ -98,6 +119,22 @@ pub fn job_mix(s: State, work: &mut [f32]) -> Outcome
     let fs = s.filters;
     mix_rows(f, work);
     quiet(answer, marked(s, 16, fs))
+}
+
+// Sends a line mixed through its bands, and adds the input to it unless in a tail.
+pub fn job_line(s: State, line: usize, work: &mut [f32]) -> Outcome
+    ensures { λ r. ⌜ r ≡ outcome (judgedLine wall (ofState s) line (length (now (work .entry)))) (accept (judgedLine wall (ofState s) line (length (now (work .entry)))) (markedUnit (ofState s) (lineMark wall line) (lineFilters wall (ofState s) line (now (work .entry)))) (ofState s)) TailComplete ⌝ }
+    ensures { λ _. ⌜ now (work .exit) ≡ accept (judgedLine wall (ofState s) line (length (now (work .entry)))) (lineWork wall (ofState s) line (now (work .entry))) (now (work .entry)) ⌝ }
+{
+    let answer = judge_line(s, line, work.len());
+    if !is_accepted(answer) {
+        return quiet(answer, s);
+    }
+    let f = s.frame;
+    let tail = s.tail;
+    let fs = s.filters;
+    let gs = make_line(line, f, tail, fs, work);
+    quiet(answer, marked(s, 17 + line, gs))
 }
 
 // Makes the output of the lines read.

@@ -11,7 +11,7 @@ ghost use Rattle.samples.specs.Binary32.{+0};
 ghost use Rattle.unit.specs.Hall.{ofState, toState};
 ghost use Rattle.unit.specs.Model.{wall};
 ghost use Rattle.unit.specs.Sizes.{storeLen};
-ghost use Rattle.lines.specs.Work.{OutputFits};
+ghost use Rattle.rows.specs.Fits.{WorkFits};
 ghost use Rattle.jobs.specs.Held.{holding};
 ghost use Rattle.jobs.specs.Play.{openLaid};
 ghost use Rattle.jobs.specs.Steps.{markedUnit, mixLaid};
@@ -29,7 +29,7 @@ pub(crate) fn marked(s: State, k: usize, filters: [Filter; 51]) -> State
 
 // Mixes the rows read into the rows mixed.
 pub(crate) fn mix_rows(f: usize, work: &mut [f32])
-    requires { ⌜ OutputFits wall f (length (now work)) ⌝ }
+    requires { ⌜ WorkFits wall f (length (now work)) ⌝ }
     ensures { λ _. ⌜ now (work .exit) ≡ mixLaid wall f (now (work .entry)) ⌝ }
 {
     let e = 33 * f;
@@ -54,7 +54,7 @@ pub(crate) fn opened(s: State, tail: bool, filters: [Filter; 51], next: Frames) 
 // Sets every float of the work memory for a frame: the allpass rings as they are in the store, and
 // else +0.
 pub(crate) fn begin_work(f: usize, store: &[f32], work: &mut [f32])
-    requires { ⌜ OutputFits wall f (length (now work)) × (length (now store) ≡ storeLen wall f) ⌝ }
+    requires { ⌜ WorkFits wall f (length (now work)) × (length (now store) ≡ storeLen wall f) ⌝ }
     ensures { λ _. ⌜ now (work .exit) ≡ openLaid wall f (replicate f +0) (now (store .entry)) ⌝ }
 {
     clear(work);

@@ -1,7 +1,5 @@
-pub mod LineParts
 pub mod LineLaws
 pub mod LineTurns
-pub mod LineSums
 pub mod LineFills
 pub mod RowJoins
 pub mod Parts
@@ -9,3 +7,4 @@ pub mod FrameParts
 pub mod Room
 pub mod RowsOf
 pub mod Rooms
+pub mod ReadLaid

@@ -19,7 +19,7 @@ use Rattle.unit.proofs.Laws.{store-is}
 use Rattle.frame.specs.Lines.{noFilter, filtersOf}
 use Rattle.frame.specs.Settle.{movedBy, allMoved}
 use Rattle.lines.specs.Work.{Within}
-use Rattle.lines.proofs.LineLaws.{more}
+use Rattle.rows.proofs.RowsLeft.{more}
 
 -- ---- the cursors moved: those of the rings from i on are as they were
 

@@ -2,7 +2,7 @@
 use mathlib.Core.Path.{_≡_, refl, sym, ap, _∙_}
 use mathlib.Core.Bool.{Bool, true, _&&_}
 use mathlib.Core.List.{List, [], _∷_}
-use Prim.Native.Nat.{ℕ, zero, suc, _+_, _*_, _≤_, _<_}
+use Prim.Native.Nat.{ℕ, zero, suc, _+_, _≤_, _<_}
 use native.Mathlib.Nat.{add-zero, zero-add, add-suc, suc-add, not-suc-le-zero}
 use native.Mathlib.Omega.{arith}
 use lib.Dec.{eqb}
@@ -22,6 +22,7 @@ use Rattle.unit.specs.Model.{Model, wall}
 use Rattle.unit.specs.Sizes.{lengthsFrom, lineLengths, total, storeLen, workLen}
 use Rattle.unit.specs.Range.{below, linesOk, passesOk}
 use Rattle.unit.specs.Judges.{roomOk}
+use Rattle.rows.proofs.RowsOf.{work-parts}
 use Rattle.frame.specs.Frame.{Frame, frameFrom, frameIn}
 use Rattle.frame.specs.Settle.{allMoved}
 use Rattle.lines.specs.Work.{Rings, Within, WholeFits, frameBy}
@@ -54,7 +55,7 @@ module _ (ls : ℕ → ℕ) (cs : List Cursors) (all : allFrom (λ i c. below (l
       below-of _ _ (rw zero-add at (all-or (λ i c. below (ls i) c) cs 0 i (both 0) all (rw zero-add (below-start (ls i) h))))
 
 -- the length of line i
-length-at : (m : Model) (f n j i : ℕ) → i < n → getD (lengthsFrom m f n j) i 0 ≡ m .delay (j + i) + f
+pub length-at : (m : Model) (f n j i : ℕ) → i < n → getD (lengthsFrom m f n j) i 0 ≡ m .delay (j + i) + f
 unfolding lengthsFrom
 length-at m f zero j i h = absurd (not-suc-le-zero h)
 length-at m f (suc n) j zero h = rw add-zero refl
@@ -119,10 +120,6 @@ store-parts : (f store : ℕ) → store ≡ storeLen wall f → total (take 16 (
     → store ≡ total (take 16 (lineLengths wall f)) + total (wall .passes)
 unfolding storeLen
 store-parts f store e q = e ∙ ap (λ (k : ℕ). k + total (wall .passes)) (sym q)
-
-pub work-parts : (f work : ℕ) → work ≡ workLen wall f → work ≡ f + 16 * f + 16 * f + f + total (wall .passes)
-unfolding workLen
-work-parts f work e = omega arith
 
 pub room-fits : (f : ℕ) (cs qs : List Cursors) (store work output : ℕ) → roomOk wall f cs qs store work output ≡ true
     → WholeFits wall f cs qs store work output

@@ -1,7 +1,6 @@
--- The two ways on from a test of room: where there is none, all is left as it was. Assumes nothing.
-use borrow.Author.Tests.{not-true, not-false}
-use mathlib.Core.Path.{_≡_, refl, sym, _∙_}
-use mathlib.Core.Bool.{Bool, true, false, not}
+-- Where there is no room for a frame, all is left as it was. Assumes nothing.
+use mathlib.Core.Path.{_≡_, refl}
+use mathlib.Core.Bool.{Bool, false}
 use mathlib.Core.List.{List}
 use Prim.Native.Nat.{ℕ}
 use lib.Ieee.{Float}
@@ -22,11 +21,3 @@ pub none : (f : ℕ) (cs qs : List Cursors) (fs : List Filter) (ok : Bool) (gs :
     → Left f cs qs fs ok gs put rings out false (record { ok = false; filters = fs; lines = cs; passes = qs }) store store work work output output
 unfolding ended endedStore endedWork endedOutput
 none f cs qs fs ok gs put rings out store work output = (refl, (refl, (refl, refl)))
-
--- `ok` is the test that was made, and `room` what it tells
-module _ (ok room : Bool) (e : ok ≡ room) where
-  pub shut : not ok ≡ true → room ≡ false
-  shut h = sym e ∙ not-true ok h
-
-  pub let-in : not ok ≡ false → room ≡ true
-  let-in h = sym e ∙ not-false ok h

@@ -1,219 +1,30 @@
 -- How the steps of a frame join in the work memory: what each is lent, what comes back, and what all of it is then. Assumes nothing.
 use mathlib.Core.Path.{_≡_, refl, sym, ap, _∙_}
-use mathlib.Core.Bool.{Bool, true, false, cond}
-use mathlib.Core.List.{List, [], _∷_, _++_, append-nil, append-assoc}
-use Prim.Native.Nat.{ℕ, zero, suc, _+_, _*_, _-_, _/_, _%_, _<_, _≤_}
-use native.Mathlib.Nat.{add-zero, sub-zero}
+use mathlib.Core.Bool.{Bool, true}
+use mathlib.Core.List.{List, _++_, append-assoc}
+use Prim.Native.Nat.{ℕ, _+_, _*_, _-_, _<_, _≤_}
+use native.Mathlib.Nat.{add-zero}
 use native.Mathlib.Omega.{arith}
 use lib.Ieee.{Float}
-use lib.ListN.{length, getD, take, drop, replicate, length-append, length-take, length-drop, take-append-drop}
-use lib.Seq.{take-at, take-take, take-add, getD-drop, getD-append-add, drop-at, drop-drop, take-all, drop-length, length-take-le}
+use lib.ListN.{length, getD, take, drop, length-append, length-take, length-drop}
+use lib.Seq.{take-at, take-take, take-add, getD-drop, getD-append-add, drop-at, drop-drop, length-take-le}
 use borrow.Rule.Slice.PartMut.{putMid}
-use Rattle.samples.specs.declared.Answer.{Answer}
-use Rattle.samples.specs.declared.Answer.the-variants.{Accepted}
-use Rattle.samples.specs.Answers.{accept}
-use Rattle.samples.specs.Binary32.{+0}
 use Rattle.samples.specs.Lists.{over}
-use Rattle.samples.proofs.Turns.{middle, end}
-use Rattle.hadamard.specs.Rows.{mixedRows, judgedRows, rowsMixed}
-use Rattle.hadamard.proofs.Laws.{rows-accepted, rows-joined, rows-length}
+use Rattle.samples.proofs.Turns.{back}
 use Rattle.delay.specs.declared.Cursors.{Cursors}
-use Rattle.delay.specs.Calls.{both}
 use Rattle.unit.specs.Sizes.{total}
 use Rattle.iir.specs.declared.Filter.{Filter}
-use Rattle.iir.specs.Runs.{bandsOut, bandsEnd}
-use Rattle.frame.specs.Lines.{noFilter, readRows, bandEnds, three, threeOf, addRows, sumRows}
-use Rattle.frame.specs.Frame.{stretch, stageAt, ringsOf, lineRows, outputRow, newFilters}
-use Rattle.frame.specs.Passes.{Stage, passOut, passEnd}
-use Rattle.frame.specs.Stages.{staged}
-use Rattle.frame.specs.Steps.{divided, copied}
-use Rattle.frame.proofs.RowLaws.{byBands, copied-all, length-bandEnds}
+use Rattle.frame.specs.Lines.{noFilter, readRows}
+use Rattle.frame.specs.Frame.{lineRows, outputRow, newFilters}
+use Rattle.frame.specs.Steps.{copied}
+use Rattle.frame.proofs.RowLaws.{copied-all}
 use Rattle.frame.proofs.FrameLaws.{put-beside}
-use Rattle.frame.proofs.Stages.{length-passOut, pass-rings, staged-laid}
+use Rattle.rows.specs.Fits.{outputFits}
+use Rattle.rows.specs.Steps.{linesEnds, linesLaid, outputFrom, outputMade, outputAfter}
+use Rattle.rows.proofs.Stretches.{lent-long}
+use Rattle.rows.proofs.RowFits.{lines-yes, output-yes}
+use Rattle.rows.proofs.RowJoins.{first-part, last-part, last-of, filters-long}
 use Rattle.lines.specs.Work.{FrameFits, frameBy, framed}
-
--- what is lent of w, where it is p, of length a, and then q, and what comes back: of all before a, and of all from a on
-module _ (a : ℕ) (p q w : List Float) (e : w ≡ p ++ q) (l : length p ≡ a) where
-  first-part : (take (a - 0) (drop 0 w) ≡ p) × ((x : List Float) → putMid 0 (a - 0) w x ≡ x ++ q)
-  first-part = middle 0 a [] p q w e refl (l ∙ sym (sub-zero a))
-
-  last-part : (take (length w - a) (drop a w) ≡ q) × ((x : List Float) → putMid a (length w - a) w x ≡ p ++ x)
-  last-part = end a (length w) p q w e l (rw (e, length-append p q) (omega arith))
-
--- any w is the first a and then the others
-module _ (a : ℕ) (w : List Float) (h : a ≤ length w) where
-  first-of : (take (a - 0) (drop 0 w) ≡ take a w) × ((x : List Float) → putMid 0 (a - 0) w x ≡ x ++ drop a w)
-  first-of = first-part a (take a w) (drop a w) w (sym (take-append-drop a w)) (length-take-le a w h)
-
-  last-of : (take (length w - a) (drop a w) ≡ drop a w) × ((x : List Float) → putMid a (length w - a) w x ≡ take a w ++ x)
-  last-of = last-part a (take a w) (drop a w) w (sym (take-append-drop a w)) (length-take-le a w h)
-
--- ---- n rows read over the first of 2 n, and these mixed over the others
-
-pub mix-join : (n f : ℕ) (k : Float) (rows reads x w : List Float) (a : Answer) → 0 < n → length rows ≡ n * f + n * f
-    → let w₁ = putMid 0 (n * f - 0) rows x in
-    length x ≡ length (take (n * f - 0) (drop 0 rows)) → x ≡ reads
-    → (a ≡ judgedRows n (length w₁)) × (w ≡ accept a (rowsMixed n k w₁) w₁) → w ≡ reads ++ mixedRows n f k reads
-mix-join n f k rows reads x w a h l kept ex e =
-    let m = n * f in
-    let old = drop m rows in
-    let q = first-of m rows (omega arith) in
-    let lx : length x ≡ m = kept ∙ ap length (q .0) ∙ length-take-le m rows (omega arith) in
-    let lo : length old ≡ m = rw length-drop (omega arith) in
-    let yes : a ≡ Accepted = e .0 ∙ rw (q .1 x) (rows-accepted n f (length (x ++ old)) (rw length-append (omega arith))) in
-    e .1 ∙ rw (yes, q .1 x, rows-joined n f k x old h lx lo, ex) refl
-
--- ---- the sum of the rows read, after all rows, divided
-
-pub mean-join : (n f : ℕ) (d : Float) (rows w x : List Float) → length rows ≡ n * f + n * f + f
-    → let at = n * f + n * f in
-    let sum = sumRows f n (replicate f +0) (take (n * f) rows) in
-    w ≡ take at rows ++ sum → x ≡ divided d (take (length w - at) (drop at w)) → putMid at (length w - at) w x ≡ take at rows ++ divided d sum
-mean-join n f d rows w x l ew ex =
-    let at = n * f + n * f in
-    let q = last-part at (take at rows) (sumRows f n (replicate f +0) (take (n * f) rows)) w ew (length-take-le at rows (omega arith)) in
-    q .1 x ∙ rw (ex, q .0) refl
-
--- ---- the input, n rows read and n mixed: the mixed rows through their bands, and the input added to them unless in a tail
-
-cond-after : (t : Bool) (p x y : List Float) → cond t (p ++ x) (p ++ y) ≡ p ++ cond t x y
-cond-after true p x y = refl
-cond-after false p x y = refl
-
-pub lines-join : (n f : ℕ) (k : Float) (tail : Bool) (fs gs : List Filter) (w reads x x₂ w₃ : List Float) → length w ≡ f + n * f + n * f
-    → length x ≡ length (take (length w - f) (drop f w)) → x ≡ reads ++ mixedRows n f k reads
-    → let at = f + n * f in
-    let w₁ = putMid f (length w - f) w x in
-    let q = take (length w - at) (drop at w₁) in
-    let w₂ = putMid at (length w - at) w₁ x₂ in
-    let r = lineRows n f k tail fs (take f w) reads in
-    (gs ≡ bandEnds f n 0 fs q ++ drop (3 * n) fs) × (x₂ ≡ byBands f n 0 fs q)
-    → w₃ ≡ cond tail w₂ (take at w₂ ++ addRows f n (take f w₂) (drop at w₂))
-    → (gs ≡ r .filters ++ drop (3 * n) fs) × (w₃ ≡ take f w ++ (reads ++ r .put))
-unfolding lineRows
-lines-join n f k tail fs gs w reads x x₂ w₃ l kept ex e₂ e₃ =
-    let at = f + n * f in
-    let input = take f w in
-    let mixed = mixedRows n f k reads in
-    let bands = byBands f n 0 fs mixed in
-    let li : length input ≡ f = length-take-le f w (omega arith) in
-    let lm = rows-length n f k reads in
-    let lx : length x ≡ n * f + n * f = kept ∙ simp (length-take, length-drop) (omega arith) in
-    let lr : length reads ≡ n * f = omega (arith, ap length ex ∙ length-append reads mixed) in
-    let lp : length (input ++ reads) ≡ at = rw length-append (omega arith) in
-    let begun = last-of f w (omega arith) .1 x in
-    let q = end at (length w) (input ++ reads) mixed _ (begun ∙ rw ex (sym (append-assoc input reads mixed))) lp (omega arith) in
-    let first : take f ((input ++ reads) ++ bands) ≡ input = rw append-assoc (take-at input (reads ++ bands) f li) in
-    let added = addRows f n input bands in (
-      e₂ .0 ∙ rw (q .0) refl,
-      e₃ ∙ rw (q .1 x₂, e₂ .1, q .0, first, take-at (input ++ reads) bands at lp, drop-at (input ++ reads) bands at lp, cond-after tail (input ++ reads) bands added, append-assoc) refl,
-    )
-
--- ---- the allpass rings: four stretches, of the lengths ps
-
-total-next : (k : ℕ) (ps : List ℕ) → total (take (suc k) ps) ≡ total (take k ps) + getD ps k 0
-unfolding total
-total-next zero [] = refl
-total-next (suc k) [] = refl
-total-next zero (p ∷ ps) = omega arith
-total-next (suc k) (p ∷ ps) = omega (arith, total-next k ps)
-
-total-front : (k : ℕ) (ps : List ℕ) → total (take k ps) ≤ total ps
-unfolding total
-total-front zero ps = omega arith
-total-front (suc k) [] = omega arith
-total-front (suc k) (p ∷ ps) = omega (arith, total-front k ps)
-
--- the first two are no longer than all
-pub two-fit : (ps : List ℕ) → getD ps 0 0 + getD ps 1 0 ≤ total ps
-unfolding total
-two-fit ps = omega (arith, total-next 0 ps, total-next 1 ps, total-front 2 ps)
-
-module _ (ps : List ℕ) (rings : List Float) (l : length rings ≡ total ps) where
-  stretch-long : (k : ℕ) → length (stretch ps k rings) ≡ getD ps k 0
-  unfolding stretch
-  stretch-long k = simp (length-take, length-drop) (omega (arith, total-next k ps, total-front (suc k) ps))
-
-  stretch-next : (k : ℕ) → stretch ps k rings ++ drop (total (take (suc k) ps)) rings ≡ drop (total (take k ps)) rings
-  unfolding stretch
-  stretch-next k =
-      let t = total (take k ps) in
-      rw (total-next k ps, ← drop-drop (getD ps k 0) t rings) (take-append-drop (getD ps k 0) (drop t rings))
-
-  four-stretches : length ps ≡ 4 → stretch ps 0 rings ++ (stretch ps 1 rings ++ (stretch ps 2 rings ++ stretch ps 3 rings)) ≡ rings
-  unfolding total
-  four-stretches four =
-      let none : drop (total (take 4 ps)) rings ≡ [] = rw (take-all 4 ps (omega arith), ← l) (drop-length rings) in
-      rw (← append-nil (stretch ps 3 rings), ← none, stretch-next 3, stretch-next 2, stretch-next 1) (stretch-next 0)
-
--- ---- both stages over the row before them
-
--- the row after both stages, and the rings
-abbrev pub bothPassed : ℕ → List ℕ → List Cursors → List Float → List Float → List Float
-bothPassed f ps qs rings row =
-    let s = stageAt ps qs rings 0 in
-    let t = stageAt ps qs rings 2 in
-    let out = passOut (f / 4) s row in
-    passOut (f / 4) t out ++ ringsOf (passEnd (f / 4) s row) (passEnd (f / 4) t out)
-
-pub passes-join : (f : ℕ) (ps : List ℕ) (qs : List Cursors) (w w₁ w₂ : List Float) → f % 4 ≡ 0 → length ps ≡ 4 → length w ≡ f + total ps
-    → w₁ ≡ staged f f (getD ps 0 0) (getD ps 1 0) (getD qs 0 (both 0)) (getD qs 1 (both 0)) w
-    → w₂ ≡ staged f (f + getD ps 0 0 + getD ps 1 0) (getD ps 2 0) (getD ps 3 0) (getD qs 2 (both 0)) (getD qs 3 (both 0)) w₁
-    → w₂ ≡ bothPassed f ps qs (drop f w) (take f w)
-passes-join f ps qs w w₁ w₂ fours four l e₁ e₂ =
-    let n : ℕ = f / 4 in
-    let at = f + getD ps 0 0 + getD ps 1 0 in
-    let row : List Float = take f w in
-    let s : Stage = stageAt ps qs (drop f w) 0 in
-    let t : Stage = stageAt ps qs (drop f w) 2 in
-    let out : List Float = passOut n s row in
-    let e : Stage = passEnd n s row in
-    let lg : length (drop f w) ≡ total ps = rw length-drop (omega arith) in
-    let lr : length row ≡ f = length-take-le f w (omega arith) in
-    let lo : length out ≡ f = omega (arith, length-passOut n s row) in
-    let same = pass-rings n s row in
-    let long = stretch-long ps (drop f w) lg in
-    let whole : w ≡ row ++ (s .x ++ (s .y ++ (t .x ++ t .y))) = rw (four-stretches ps (drop f w) lg four) (sym (take-append-drop f w)) in
-    let one = staged-laid f f (getD ps 0 0) (getD ps 1 0) row [] (t .x ++ t .y) s fours lr (omega arith) (long 0) (long 1) in
-    let lat : length out + length (e .x ++ e .y) ≡ at = rw length-append (omega (arith, same .x, same .y, long 0, long 1)) in
-    let two = staged-laid f at (getD ps 2 0) (getD ps 3 0) out (e .x ++ e .y) [] t fours lo lat (long 2) (long 3) in
-    let w₁-is : w₁ ≡ out ++ ((e .x ++ e .y) ++ (t .x ++ (t .y ++ []))) = e₁ ∙ rw (append-nil, append-assoc) (rw (← whole) at one) in
-    e₂ ∙ rw (w₁-is, two, append-nil, append-assoc) refl
-
--- ---- n rows read, n mixed, the output and the rings: the mean, both stages, and the tone's filters
-
-pub output-join : (n f : ℕ) (d : Float) (ps : List ℕ) (qs : List Cursors) (fs gs : List Filter) (w x x₂ x₃ : List Float)
-    → f % 4 ≡ 0 → length w ≡ n * f + n * f + f + total ps
-    → let at = n * f + n * f in
-    let k = 3 * n in
-    let q = take (at + f - 0) (drop 0 w) in
-    let w₁ = putMid 0 (at + f - 0) w x in
-    let p = take (length w₁ - at) (drop at w₁) in
-    let w₂ = putMid at (length w₁ - at) w₁ x₂ in
-    let row = take (at + f - at) (drop at w₂) in
-    let r = outputRow n f d ps qs fs (drop (at + f) w) (take (n * f) w) in
-    length x ≡ length q → x ≡ take at q ++ divided d (sumRows f n (replicate f +0) (take (n * f) q))
-    → x₂ ≡ bothPassed f ps qs (drop f p) (take f p)
-    → (gs ≡ over k (threeOf (bandsEnd (three k fs) row)) fs) × (x₃ ≡ bandsOut (three k fs) row)
-    → (gs ≡ over k (r .filters) fs) × (putMid at (at + f - at) w₂ x₃ ≡ take at w ++ (r .out ++ r .rings))
-unfolding outputRow bandsOut
-output-join n f d ps qs fs gs w x x₂ x₃ fours l kept ex e₂ e₃ =
-    let m = n * f in
-    let at = m + m in
-    let front : List Float = take at w in
-    let rings : List Float = drop (at + f) w in
-    let mean : List Float = divided d (sumRows f n (replicate f +0) (take m w)) in
-    let r = outputRow n f d ps qs fs rings (take m w) in
-    let q = first-of (at + f) w (omega arith) in
-    let lf : length front ≡ at = length-take-le at w (omega arith) in
-    let ex′ : x ≡ front ++ mean = ex ∙ rw (q .0, take-take at (at + f) w (omega arith), take-take m (at + f) w (omega arith)) refl in
-    let lx : length x ≡ at + f = kept ∙ ap length (q .0) ∙ length-take-le (at + f) w (omega arith) in
-    let lm : length mean ≡ f = omega (arith, ap length ex′ ∙ length-append front mean) in
-    let p = last-part at front (mean ++ rings) _ (q .1 x ∙ rw (ex′, append-assoc) refl) lf in
-    let e₂′ : x₂ ≡ r .pass1 ++ r .rings = e₂ ∙ rw (p .0, take-at mean rings f lm, drop-at mean rings f lm) refl in
-    let lo : length (r .pass1) ≡ at + f - at = omega (arith, length-passOut (f / 4) (stageAt ps qs rings 2) (r .pass0)) in
-    let row = middle at (at + f) front (r .pass1) (r .rings) _ (p .1 x₂ ∙ rw e₂′ refl) lf lo in
-    (e₃ .0 ∙ rw (row .0) refl, row .1 x₃ ∙ rw (e₃ .1, row .0) refl)
 
 -- ---- step 5 where the lines' filters are those after step 4: it looks at the others alone
 
@@ -262,10 +73,36 @@ module _ (n : ℕ) (lines fs : List Filter) (l : length lines ≡ 3 * n) where
           q .1 x ∙ rw (e .1, q .0, read, two, left, eg, same, append-assoc) refl,
         )
 
-module _ (n f : ℕ) (k : Float) (tail : Bool) (fs : List Filter) (input reads : List Float) where
-  filters-long : length (lineRows n f k tail fs input reads .filters) ≡ 3 * n
-  unfolding lineRows
-  filters-long = length-bandEnds f n 0 fs (mixedRows n f k reads)
+-- ---- the rows read, over the first of those after the input, and then steps 3 and 4
+
+pub lines-join : (n f : ℕ) (k : Float) (tail : Bool) (fs gs : List Filter) (rows reads x w : List Float) → 0 < n → n ≤ 16 → f ≤ 65536
+    → length rows ≡ f + n * f + n * f → length x ≡ length (take (f + n * f - f) (drop f rows)) → x ≡ reads
+    → let w₁ = putMid f (f + n * f - f) rows x in
+    (gs ≡ linesEnds n f k tail fs w₁) × (w ≡ linesLaid n f k tail fs w₁)
+    → let r = lineRows n f k tail fs (take f rows) reads in
+    (gs ≡ r .filters ++ drop (3 * n) fs) × (w ≡ take f rows ++ (reads ++ r .put))
+unfolding linesEnds linesLaid
+lines-join n f k tail fs gs rows reads x w some few small l kept ex e =
+    let m = n * f in
+    let input = take f rows in
+    let lx : length x ≡ m = kept ∙ lent-long f rows m (omega arith) in
+    let w₁ = putMid f (f + m - f) rows x in
+    let w₁-is : w₁ ≡ input ++ (x ++ drop (f + m) rows) = back f m rows x in
+    let li : length input ≡ f = length-take-le f rows (omega arith) in
+    let lw : length w₁ ≡ f + m + m = ap length w₁-is ∙ simp (length-append, length-drop) (omega arith) in
+    let first : take f w₁ ≡ input = ap (take f) w₁-is ∙ take-at input (x ++ drop (f + m) rows) f li in
+    let next : take m (drop f w₁) ≡ reads = ap (λ (v : List Float). take m (drop f v)) w₁-is ∙ ap (take m) (drop-at input (x ++ drop (f + m) rows) f li) ∙ take-at x (drop (f + m) rows) m lx ∙ ex in
+    let yes = lines-yes n f (length w₁) some few small lw in
+    (e .0 ∙ rw (yes, first, next) refl, e .1 ∙ rw (yes, first, next) refl)
+
+-- ---- step 5 on rows that fit
+
+output-done : (n f : ℕ) (d : Float) (ps : List ℕ) (qs : List Cursors) (gs hs : List Filter) (p x : List Float) → outputFits n f ps (length p) ≡ true
+    → let s = outputFrom n f d ps qs gs p in
+    (hs ≡ outputAfter n f d ps qs gs p) × (x ≡ outputMade n f d ps qs gs p)
+    → (hs ≡ over (3 * n) (s .filters) gs) × (x ≡ take (n * f + n * f) p ++ (s .out ++ s .rings))
+unfolding outputAfter outputMade
+output-done n f d ps qs gs hs p x e q = rw e at q
 
 -- ---- a whole frame
 
@@ -291,10 +128,9 @@ pub frame-join : (n f : ℕ) (k d : Float) (tail : Bool) (ls : List ℕ) (cs : L
     let p = take (length w₁ - f) (drop f w₁) in
     let r = frameBy n f k d tail ls cs ps qs fs (take f work) store in
     let lines = lineRows n f k tail fs (take f q) (r .reads) in
-    let output = outputRow n f d ps qs gs (drop (n * f + n * f + f) p) (take (n * f) p) in
     x ≡ copied (take (length store - a) (drop a store)) (take (length work - b) (drop b work))
     → length x₁ ≡ length q → (gs ≡ lines .filters ++ drop (3 * n) fs) × (x₁ ≡ take f q ++ (r .reads ++ lines .put))
-    → (hs ≡ over (3 * n) (output .filters) gs) × (x₂ ≡ take (n * f + n * f) p ++ (output .out ++ output .rings))
+    → (hs ≡ outputAfter n f d ps qs gs p) × (x₂ ≡ outputMade n f d ps qs gs p)
     → (hs ≡ newFilters r ++ drop (3 * n + 3) fs) × (putMid f (length w₁ - f) w₁ x₂ ≡ framed (take f work) r)
 unfolding framed
 frame-join n f k d tail ls cs ps qs fs gs hs store work x x₁ x₂ fits e₀ kept e₁ e₂ =
@@ -315,5 +151,9 @@ frame-join n f k d tail ls cs ps qs fs gs hs store work x x₁ x₂ fits e₀ ke
     let first = ap (take f) (q .0) ∙ take-take f at work (omega arith) in
     let x₁-is : x₁ ≡ input ++ (reads ++ lines .put) = e₁ .1 ∙ rw first refl in
     let lr : length reads ≡ n * f = omega (arith, kept ∙ ap length (q .0) ∙ la, simp length-append at (ap length x₁-is)) in
+    let w₁ = putMid 0 (at - 0) (putMid (at + f) (length work - (at + f)) work x) x₁ in
+    let lw₁ : length w₁ ≡ length work = ap length (q .1 x₁) ∙ simp (length-append, length-drop) (omega (arith, kept ∙ ap length (q .0) ∙ la, lo, fits .store-is)) in
+    let lent : length (take (length w₁ - f) (drop f w₁)) ≡ n * f + n * f + f + total ps = simp (length-take, length-drop) (omega (arith, lw₁, fits .work-is)) in
+    let fits-on = output-yes n f ps _ (fits .some) (fits .few) (fits .small) (fits .fours) lent in
     tone-join n (lines .filters) fs (filters-long n f k tail fs input reads) f d ps qs gs hs _ x₂ input reads (lines .put) old rings li lr lp lo
-    (q .1 x₁ ∙ rw x₁-is (simp append-assoc)) (e₁ .0 ∙ rw first refl) e₂
+    (q .1 x₁ ∙ rw x₁-is (simp append-assoc)) (e₁ .0 ∙ rw first refl) (output-done n f d ps qs gs hs _ x₂ fits-on e₂)

@@ -1,4 +1,4 @@
 pub mod Work
 pub mod Steps
-pub mod Rows
+pub mod Rings
 pub mod Parts

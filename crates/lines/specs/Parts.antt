@@ -1,38 +1,34 @@
--- A frame that lies in the work memory, its rows as jobs left them.
-use Prim.Native.Nat.{ℕ, _*_}
-use mathlib.Core.Bool.{Bool, cond, _&&_}
+-- The rows of a frame in the work memory, as jobs make them and leave them.
+use Prim.Native.Nat.{ℕ}
+use mathlib.Core.Bool.{Bool, _&&_, cond}
 use mathlib.Core.List.{List}
-use lib.Dec.{eqb}
+use lib.Dec.{ltb, eqb}
 use lib.Ieee.{Float}
-use Rattle.samples.specs.Lists.{over}
 use Rattle.samples.specs.Search.{allFinite}
-use Rattle.samples.specs.Sizes.{frameOk}
 use Rattle.delay.specs.declared.Cursors.{Cursors}
+use Rattle.delay.specs.Calls.{getOut}
 use Rattle.iir.specs.declared.Filter.{Filter}
 use Rattle.unit.specs.Model.{Model}
-use Rattle.unit.specs.Sizes.{workLen}
-use Rattle.frame.specs.Frame.{OutputRow, outputRow}
+use Rattle.unit.specs.Sizes.{lineLengths, storeLen}
 use Rattle.frame.specs.Settle.{filtersFinite}
-use Rattle.lines.specs.Rows.{Rows, rowsOf, laid}
+use Rattle.rows.specs.Rows.{row, setRow, Rows, rowsOf, laid}
+use Rattle.rows.specs.Fits.{workFor}
+use Rattle.lines.specs.Rings.{ringAt}
 
 -- "9 judges the new filter numbers, the rows put, the four allpass rings and the output.", as they lie in the work memory
 unfoldable pub rowsFinite : List Filter → Rows → Bool
 rowsFinite fs r = filtersFinite fs && (allFinite (r .mixed) && (allFinite (r .output) && allFinite (r .rings)))
 
--- whether a work memory is one of frames of f samples
-abbrev pub workFor : Model → ℕ → ℕ → Bool
-workFor m f work = frameOk f && eqb work (workLen m f)
-
--- step 5 from the rows read and the allpass rings in the work memory
-abbrev pub outputIn : Model → ℕ → List Cursors → List Filter → Rows → OutputRow
-outputIn m f qs fs r = outputRow (m .lines) f (m .divisor) (m .passes) qs fs (r .rings) (r .reads)
+-- step 2 of line i, whose cursors are c: "Read F samples of each line." A row that its ring doesn't give stays as it is
+abbrev pub readIn : Model → ℕ → ℕ → Cursors → List Float → Rows → List Float
+readIn m f i c store r = getOut (ringAt (lineLengths m f) 0 i store) c (row f i (r .reads))
 
 -- the work memory after it, if there is `room` for such a frame
-unfoldable pub outputLaid : Model → ℕ → List Cursors → List Filter → Bool → List Float → List Float
-outputLaid m f qs fs room work =
+unfoldable pub readLaid : Model → ℕ → ℕ → Cursors → Bool → List Float → List Float → List Float
+readLaid m f i c room store work =
     let r = rowsOf m f work in
-    cond room (laid (r .input) (r .reads) (r .mixed) (outputIn m f qs fs r .out) (outputIn m f qs fs r .rings)) work
+    cond room (laid (r .input) (setRow f i (readIn m f i c store r) (r .reads)) (r .mixed) (r .output) (r .rings)) work
 
--- and the filters: the tone's three are those after the lines'
-unfoldable pub outputEnds : Model → ℕ → List Cursors → List Filter → Bool → List Float → List Filter
-outputEnds m f qs fs room work = cond room (over (3 * m .lines) (outputIn m f qs fs (rowsOf m f work) .filters) fs) fs
+-- line i is one of the model's, and the memory is one of frames of f samples
+abbrev pub lineRoom : Model → ℕ → ℕ → ℕ → ℕ → Bool
+lineRoom m f i store work = ltb i (m .lines) && (workFor m f work && eqb store (storeLen m f))

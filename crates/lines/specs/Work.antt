@@ -71,13 +71,6 @@ pub record WholeFits (m : Model) (f : ℕ) (cs qs : List Cursors) (store work ou
   pub short : f ≤ 1024
   pub out : output ≡ f
 
--- what step 5 asks of the work memory
-pub record OutputFits (m : Model) (f work : ℕ) : Type 0 where
-  pub short : f ≤ 1024
-  pub fours : f % 4 ≡ 0
-  pub passes : total (m .passes) ≤ 65536
-  pub work-is : work ≡ f + m .lines * f + m .lines * f + f + total (m .passes)
-
 -- what settling a frame of n lines asks: the lines' rings, and as many floats after them as after the rows in the work memory
 pub record SettleFits (n f : ℕ) (ls : List ℕ) (cs : List Cursors) (store work output : ℕ) : Type 0 where
   pub lines : LinesFit n f ls cs store (n * f)

@@ -3,13 +3,12 @@
 //
 // Its contracts cite `specs/`: how a frame lies in the work memory, what the steps ask of the memory
 // lent, and what a frame leaves of it.
-mod rows;
 mod steps;
 mod whole;
 
-use crate::rows::output_row;
 use crate::steps::filters_from;
 use crate::steps::line_lengths;
+use crate::steps::line_start;
 use crate::steps::move_lines;
 use crate::steps::move_passes;
 use crate::whole::finish_frame;
@@ -20,21 +19,23 @@ use samples::and;
 use samples::frame_ok;
 use unit::PASSES;
 use unit::room_ok;
+use unit::store_ok;
 use unit::work_ok;
 ghost use mathlib.Core.Path.{_≡_};
 ghost use mathlib.Core.Bool.{true, cond};
-ghost use Prim.Native.Nat.{_≤_};
+ghost use Prim.Native.Nat.{_<_, _≤_};
 ghost use lib.Dec.{eqb};
 ghost use lib.ListN.{length, take, replicate};
 ghost use Rattle.unit.specs.Fresh.{blank};
 ghost use Rattle.unit.specs.Model.{wall};
-ghost use Rattle.unit.specs.Sizes.{lineLengths};
+ghost use Rattle.unit.specs.Sizes.{lineLengths, storeLen};
 ghost use Rattle.unit.specs.Judges.{roomOk};
 ghost use Rattle.frame.specs.Lines.{filtersOf};
 ghost use Rattle.frame.specs.Frame.{frameIn};
-ghost use Rattle.lines.specs.Work.{Within, WholeFits, OutputFits};
-ghost use Rattle.lines.specs.Rows.{rowsOf};
-ghost use Rattle.lines.specs.Parts.{rowsFinite, workFor, outputEnds, outputLaid};
+ghost use Rattle.lines.specs.Work.{Within, WholeFits};
+ghost use Rattle.rows.specs.Rows.{rowsOf};
+ghost use Rattle.rows.specs.Fits.{WorkFits};
+ghost use Rattle.lines.specs.Parts.{rowsFinite, readLaid, lineRoom};
 ghost use Rattle.lines.specs.Steps.{ended, endedStore, endedWork, endedOutput, stepped, steppedStore, steppedOutput};
 
 // What a frame came to: whether all of it is finite, its filters, and the cursors of the rings after
@@ -194,23 +195,35 @@ fn wall_close(
     moved_on(ok, f, ls, cs, qs, fs)
 }
 
-// Step 5 on a work memory that holds the rows read and the allpass rings: makes the output, and gives
-// the filters after it. On memory that isn't one of such frames nothing is done.
-pub fn make_output(f: usize, qs: [Cursors; 4], fs: [Filter; 51], work: &mut [f32]) -> [Filter; 51]
-    ensures { λ r. ⌜ r ≡ outputEnds wall f qs fs (workFor wall f (length (now (work .entry)))) (now (work .entry)) ⌝ }
-    ensures { λ _. ⌜ now (work .exit) ≡ outputLaid wall f qs fs (workFor wall f (length (now (work .entry)))) (now (work .entry)) ⌝ }
+// Step 2 of line i, whose cursors are `c`: reads its row into the work memory. On a store or a work
+// memory that isn't one of such frames nothing is done.
+pub fn read_line(i: usize, f: usize, c: Cursors, store: &[f32], work: &mut [f32])
+    ensures { λ _. ⌜ now (work .exit) ≡ readLaid wall f i c (lineRoom wall f i (length (now (store .entry))) (length (now (work .entry)))) (now (store .entry)) (now (work .entry)) ⌝ }
 {
-    if !and(frame_ok(f), work_ok(f, work.len())) {
-        return fs;
+    if !line_room(i, f, store.len(), work.len()) {
+        return;
     }
-    wall_output(f, qs, fs, work)
+    wall_read(i, f, c, store, work);
+}
+
+// Whether there is such a line, and the memory is one of frames of f samples.
+fn line_room(i: usize, f: usize, store: usize, work: usize) -> bool
+    ensures { λ r. ⌜ r ≡ lineRoom wall f i store work ⌝ }
+{
+    and(
+        i < 16,
+        and(and(frame_ok(f), work_ok(f, work)), store_ok(f, store)),
+    )
 }
 
 // The same on memory that is.
-fn wall_output(f: usize, qs: [Cursors; 4], fs: [Filter; 51], work: &mut [f32]) -> [Filter; 51]
-    requires { ⌜ OutputFits wall f (length (now work)) ⌝ }
-    ensures { λ r. ⌜ r ≡ outputEnds wall f qs fs true (now (work .entry)) ⌝ }
-    ensures { λ _. ⌜ now (work .exit) ≡ outputLaid wall f qs fs true (now (work .entry)) ⌝ }
+fn wall_read(i: usize, f: usize, c: Cursors, store: &[f32], work: &mut [f32])
+    requires { ⌜ (i < 16) × WorkFits wall f (length (now work)) × (length (now store) ≡ storeLen wall f) ⌝ }
+    ensures { λ _. ⌜ now (work .exit) ≡ readLaid wall f i c true (now (store .entry)) (now (work .entry)) ⌝ }
 {
-    output_row(16, f, 16.0, PASSES, qs, fs, &mut work[f..])
+    let a = line_start(i, f);
+    let e = a + (primes::delay(i) + f);
+    let b = f + i * f;
+    let t = b + f;
+    delay::get(&store[a..e], c, &mut work[b..t]);
 }

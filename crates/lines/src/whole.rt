@@ -1,26 +1,81 @@
 // A whole frame in the work memory, judged, and settled into the store and the output where all of it
 // is finite.
-use crate::rows::frame_rows;
+use crate::steps::read_lines;
 use crate::steps::settle;
 use delay::Cursors;
 use iir::Filter;
+use rows::line_rows;
+use rows::output_row;
 use samples::all_finite;
 use samples::and;
 use samples::clear;
 ghost use mathlib.Core.Path.{_≡_};
 ghost use mathlib.Core.Bool.{_&&_, cond};
-ghost use Prim.Native.Nat.{_+_, _*_, _≤_};
+ghost use mathlib.Core.List.{_++_};
+ghost use Prim.Native.Nat.{_+_, _*_, _<_, _≤_};
 ghost use lib.ListN.{length, take, drop, replicate};
 ghost use Rattle.samples.specs.Binary32.{+0};
 ghost use Rattle.samples.specs.Search.{allFinite};
+ghost use Rattle.frame.specs.Lines.{readRows};
+ghost use Rattle.frame.specs.Frame.{lineRows, newFilters};
 ghost use Rattle.frame.specs.Settle.{filtersFinite, putRows};
-ghost use Rattle.lines.specs.Work.{SettleFits, FrameFits, frameBy};
+ghost use Rattle.lines.specs.Work.{LinesFit, SettleFits, FrameFits, frameBy, framed};
 ghost use Rattle.lines.specs.Steps.{judgedOf, judgedStore, judgedOutput};
 
 // What a frame in the work memory came to: whether all of it is finite, and its filters.
 pub(crate) struct Judged {
     pub(crate) ok: bool,
     pub(crate) filters: [Filter; 51],
+}
+
+// Steps 2 to 4: `rows` are the input, and become the input, n rows read and n to put. Gives the
+// filters after them.
+pub(crate) fn play_lines(
+    n: usize,
+    f: usize,
+    factor: f32,
+    tail: bool,
+    ls: [usize; 16],
+    cs: [Cursors; 16],
+    fs: [Filter; 51],
+    store: &[f32],
+    rows: &mut [f32],
+) -> [Filter; 51]
+    requires { ⌜ LinesFit n f ls cs (length (now store)) (n * f) ⌝ }
+    requires { ⌜ (0 < n) × (length (now rows) ≡ f + n * f + n * f) ⌝ }
+    ensures { λ r. ⌜ r ≡ lineRows n f factor tail fs (take f (now (rows .entry))) (readRows f n 0 ls cs (now (store .entry))) .filters ++ drop (3 * n) fs ⌝ }
+    ensures { λ _. ⌜ now (rows .exit) ≡ take f (now (rows .entry)) ++ (readRows f n 0 ls cs (now (store .entry)) ++ lineRows n f factor tail fs (take f (now (rows .entry))) (readRows f n 0 ls cs (now (store .entry))) .put) ⌝ }
+{
+    let at = f + n * f;
+    read_lines(n, f, ls, cs, store, &mut rows[f..at]);
+    line_rows(n, f, factor, tail, fs, rows)
+}
+
+// A whole frame in the work memory, which begins with the input. Gives the new filters.
+pub(crate) fn frame_rows(
+    n: usize,
+    f: usize,
+    factor: f32,
+    divisor: f32,
+    tail: bool,
+    ls: [usize; 16],
+    cs: [Cursors; 16],
+    ps: [usize; 4],
+    qs: [Cursors; 4],
+    fs: [Filter; 51],
+    store: &[f32],
+    work: &mut [f32],
+) -> [Filter; 51]
+    requires { ⌜ FrameFits n f ls cs ps (length (now store)) (length (now work)) ⌝ }
+    ensures { λ r. ⌜ r ≡ newFilters (frameBy n f factor divisor tail ls cs ps qs fs (take f (now (work .entry))) (now (store .entry))) ++ drop (3 * n + 3) fs ⌝ }
+    ensures { λ _. ⌜ now (work .exit) ≡ framed (take f (now (work .entry))) (frameBy n f factor divisor tail ls cs ps qs fs (take f (now (work .entry))) (now (store .entry))) ⌝ }
+{
+    let at = f + n * f + n * f;
+    let b = at + f;
+    let a = store.len() - (work.len() - b);
+    frame::copy(&store[a..], &mut work[b..]);
+    let gs = play_lines(n, f, factor, tail, ls, cs, fs, store, &mut work[0..at]);
+    output_row(n, f, divisor, ps, qs, gs, &mut work[f..])
 }
 
 // Whether all that a frame would keep or hand out is finite: the filters, and the work memory from

@@ -9,7 +9,7 @@ use Rattle.unit.specs.Model.{wall}
 use Rattle.unit.specs.Judges.{lentOk}
 use Rattle.turns.specs.Marks.{allDone}
 use Rattle.turns.specs.Turns.{judgedClose}
-use Rattle.lines.specs.Rows.{rowsOf}
+use Rattle.rows.specs.Rows.{rowsOf}
 use Rattle.reverb.proofs.Fits.{due-of, room-of}
 use Rattle.reverb.proofs.Outcomes.{refused, let-by}
 use Rattle.jobs.proofs.Closed.{all-as-was, as-ended}

@@ -11,7 +11,7 @@ use Rattle.unit.specs.Model.{wall}
 use Rattle.unit.specs.Judges.{workOk}
 use Rattle.turns.specs.Marks.{mixMark, marked, allRead}
 use Rattle.turns.specs.Turns.{judgedMix}
-use Rattle.lines.proofs.RowsOf.{output-fits}
+use Rattle.rows.proofs.RowsOf.{work-fits}
 use Rattle.reverb.specs.Whole.{outcome}
 use Rattle.reverb.proofs.Fits.{due-of}
 use Rattle.reverb.proofs.Outcomes.{old-left, new-left, let-by}
@@ -52,7 +52,7 @@ mix-rows-requires c κs =
     let u = ofState (a .s) in
     let work = length (now (a .work)) in
     let through = let-by _ (judgedMix wall u work) _ (judged .judge-mix .ensures) (tested .is-accepted .ensures) (passed .if1 .left) in
-    output-fits (u .frame) work (work-for u work (due-of u (workOk wall u work) true (u .busy && (allRead wall u && not (marked u (mixMark wall)))) (is-accepted _ through)))
+    work-fits (u .frame) work (work-for u work (due-of u (workOk wall u work) true (u .busy && (allRead wall u && not (marked u (mixMark wall)))) (is-accepted _ through)))
 
 marked-requires : tie.Need-marked-requires
 marked-requires c κs = search needs

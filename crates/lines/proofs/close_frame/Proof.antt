@@ -2,7 +2,8 @@
 use borrow.Author.Needs.{needs}
 use denote.Ref.{now}
 use Rattle.lines.proofs.Room.{room-fits}
-use Rattle.lines.proofs.Rooms.{none, shut, let-in}
+use Rattle.rows.proofs.Ways.{shut, let-in}
+use Rattle.lines.proofs.Rooms.{none}
 use Rattle.lines.proofs.close_frame.Statement.{statement}
 use Rattle.lines.proofs.close_frame.Tie as tie
 

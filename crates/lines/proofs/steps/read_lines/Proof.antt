@@ -8,7 +8,8 @@ use native.Mathlib.Nat.{zero-add, sub-zero}
 use lib.ListN.{length, getD}
 use denote.Ref.{now}
 use Rattle.frame.specs.Lines.{readRows}
-use Rattle.lines.proofs.LineLaws.{all-left, turn-fits}
+use Rattle.rows.proofs.RowsLeft.{all-left}
+use Rattle.lines.proofs.LineLaws.{turn-fits}
 use Rattle.lines.proofs.LineTurns.{Reading, read-turn, read-done}
 use Rattle.lines.proofs.steps.read_lines.Statement.{statement}
 use Rattle.lines.proofs.steps.read_lines.Tie as tie

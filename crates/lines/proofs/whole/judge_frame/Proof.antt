@@ -9,7 +9,7 @@ use Rattle.lines.proofs.whole.judge_frame.Statement.{statement}
 use Rattle.lines.proofs.whole.judge_frame.Tie as tie
 use Rattle.lines.proofs.whole.judge_frame.Reads as reads
 use Rattle.lines.proofs.whole.judge_frame.Lts as lts
-use Rattle.lines.proofs.rows.frame_rows.Reads as frame-rows-reads
+use Rattle.lines.proofs.whole.frame_rows.Reads as frame-rows-reads
 use Rattle.lines.proofs.whole.finish_frame.Reads as finish-frame-reads
 
 frame-rows-requires : tie.Need-frame-rows-requires

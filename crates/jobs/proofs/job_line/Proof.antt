@@ -1,0 +1,135 @@
+-- `jobs::job_line` meets its contract. Assumes nothing.
+use native.Mathlib.Omega.{arith}
+use borrow.Author.Needs.{needs}
+use borrow.Author.Tests.{ltb-true}
+use denote.Ref.{now}
+use mathlib.Core.Path.{_≡_, ap, _∙_}
+use mathlib.Core.Bool.{Bool, true, not, _&&_}
+use mathlib.Core.List.{List}
+use Prim.Native.Nat.{ℕ, _<_}
+use lib.Dec.{ltb}
+use lib.ListN.{length}
+use Rattle.samples.specs.declared.Answer.the-variants.{Accepted}
+use Rattle.samples.proofs.Laws.{is-accepted, join-and}
+use Rattle.audio_buffer.specs.declared.AudioEffectState.the-variants.{TailComplete}
+use Rattle.iir.specs.declared.Filter.{Filter}
+use Rattle.unit.specs.Hall.{Hall, ofState, toState}
+use Rattle.unit.specs.Model.{wall}
+use Rattle.unit.specs.Judges.{workOk}
+use Rattle.turns.specs.Marks.{mixMark, lineMark, marked}
+use Rattle.turns.specs.Turns.{judgedLine}
+use Rattle.rows.specs.Fits.{workFor}
+use Rattle.reverb.specs.Whole.{outcome}
+use Rattle.reverb.proofs.Fits.{due-of}
+use Rattle.reverb.proofs.Outcomes.{old-left, new-left, let-by}
+use Rattle.jobs.specs.Steps.{markedUnit, lineWork, lineFilters}
+use Rattle.jobs.proofs.Laid.{work-for, line-of, line-work, line-ends}
+use Rattle.jobs.proofs.job_line.Statement.{statement}
+use Rattle.jobs.proofs.job_line.Tie as tie
+use Rattle.jobs.proofs.job_line.Reads as reads
+use Rattle.jobs.proofs.job_line.Lts as lts
+use Rattle.jobs.proofs.steps.marked.Reads as marked-reads
+use Rattle.reverb.proofs.quiet.Reads as quiet-reads
+use Rattle.rows.proofs.make_line.Reads as make-line-reads
+use Rattle.samples.proofs.is_accepted.Reads as is-accepted-reads
+use Rattle.turns.proofs.judge_line.Reads as judge-line-reads
+
+judge-line-requires : tie.Need-judge-line-requires
+judge-line-requires c κs = search needs
+
+is-accepted-requires : tie.Need-is-accepted-requires
+is-accepted-requires c κs = search needs
+
+quiet-requires : tie.Need-quiet-requires
+quiet-requires c κs = search needs
+
+returns : tie.Need-returns
+returns c =
+    let tested = c .before .before in
+    let judged = tested .before in
+    let a = judged .before .before .args in
+    let u = ofState (a .s) in
+    let b = judgedLine wall u (a .line) (length (now (a .work))) in
+    let e = judged .judge-line .ensures in
+    let t = tested .is-accepted .ensures in
+    let h = c .before .if1 .taken in (
+      c .quiet .ensures ∙ (λ i. outcome (e i) (old-left _ b _ e t (markedUnit u (lineMark wall (a .line)) (lineFilters wall u (a .line) (now (a .work)))) u h i) TailComplete),
+      old-left _ b _ e t (lineWork wall u (a .line) (now (a .work))) (now (a .work)) h,
+    )
+
+-- what the judgement has let by
+module _ (p : lts.Else1 (judge-line-reads.Asked, judge-line-reads.Learnt, is-accepted-reads.Asked, is-accepted-reads.Learnt, quiet-reads.Asked, quiet-reads.Learnt, make-line-reads.Asked, make-line-reads.Learnt, marked-reads.Asked, marked-reads.Learnt) reads.Pre reads.Post) where
+  abbrev u : Hall
+  u = ofState (p .before .before .before .before .args .s)
+
+  abbrev line : ℕ
+  line = p .before .before .before .before .args .line
+
+  abbrev work : ℕ
+  work = length (now (p .before .before .before .before .args .work))
+
+  due : judgedLine wall u line work ≡ Accepted
+  due = is-accepted _ (let-by _ (judgedLine wall u line work) _ (p .before .before .judge-line .ensures) (p .before .is-accepted .ensures) (p .if1 .left))
+
+  abbrev turn : Bool
+  turn = u .busy && (marked u (mixMark wall) && not (marked u (lineMark wall line)))
+
+  known : ltb line 16 ≡ true
+  known = line-of u (workOk wall u work) (ltb line 16) turn due
+
+  few : line < 16
+  few = ltb-true line 16 known
+
+  room : (ltb line 16 && workFor wall (u .frame) work) ≡ true
+  room = join-and known (work-for u work (due-of u (workOk wall u work) (ltb line 16) turn due))
+
+make-line-requires : tie.Need-make-line-requires
+make-line-requires c κs = search needs
+
+add-marked : tie.Need-add-marked
+add-marked c = omega (arith, few (c .before .before .before .before .before))
+
+marked-requires : tie.Need-marked-requires
+marked-requires c κs = omega (arith, few (c .before .before .before .before .before))
+
+quiet-requires-2 : tie.Need-quiet-requires-2
+quiet-requires-2 c κs = search needs
+
+same-length : tie.Need-same-length
+same-length c = search needs
+
+returns-2 : tie.Need-returns-2
+returns-2 c =
+    let made = c .before in
+    let done = made .before .before .before in
+    let passed = done .before .before .before in
+    let tested = passed .before in
+    let judged = tested .before in
+    let a = judged .before .before .args in
+    let v = u passed in
+    let b = judgedLine wall v (a .line) (work passed) in
+    let e = judged .judge-line .ensures in
+    let t = tested .is-accepted .ensures in
+    let h = passed .if1 .left in
+    let g = done .make-line .ensures in
+    let filters = line-ends v (now (a .work)) _ (room passed) (a .line) _ (g .0) in
+    let marked′ = made .marked .ensures ∙ ap (λ (gs : List Filter). toState (markedUnit v (lineMark wall (a .line)) gs)) filters in
+    let unit = ap ofState marked′ ∙ new-left _ b _ e t (markedUnit v (lineMark wall (a .line)) (lineFilters wall v (a .line) (now (a .work)))) v h in (
+      c .quiet2 .ensures ∙ (λ i. outcome (e i) (unit i) TailComplete),
+      line-work v (now (a .work)) _ (room passed) (a .line) _ (g .1) ∙ new-left _ b _ e t (lineWork wall v (a .line) (now (a .work))) (now (a .work)) h,
+    )
+
+pub job-line-spec : {M : Type 1} → statement M
+job-line-spec =
+    tie.close
+    (tie.spec
+    judge-line-requires
+    is-accepted-requires
+    quiet-requires
+    returns
+    make-line-requires
+    add-marked
+    marked-requires
+    quiet-requires-2
+    same-length
+    returns-2)

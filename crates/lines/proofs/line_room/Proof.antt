@@ -1,0 +1,52 @@
+-- `lines::line_room` meets its contract. Assumes nothing.
+use native.Mathlib.Omega.{arith}
+use borrow.Author.Needs.{needs}
+use mathlib.Core.Path.{_∙_}
+use mathlib.Core.Bool.{_&&_}
+use lib.Dec.{ltb}
+use Rattle.lines.proofs.line_room.Statement.{statement}
+use Rattle.lines.proofs.line_room.Tie as tie
+use Rattle.lines.proofs.line_room.Reads as reads
+use Rattle.lines.proofs.line_room.Lts as lts
+use Rattle.samples.proofs.and.Reads as and-reads
+use Rattle.samples.proofs.frame_ok.Reads as frame-ok-reads
+use Rattle.unit.proofs.store_ok.Reads as store-ok-reads
+use Rattle.unit.proofs.work_ok.Reads as work-ok-reads
+
+frame-ok-requires : tie.Need-frame-ok-requires
+frame-ok-requires c κs = search needs
+
+work-ok-requires : tie.Need-work-ok-requires
+work-ok-requires c κs = search needs
+
+and-requires : tie.Need-and-requires
+and-requires c κs = search needs
+
+store-ok-requires : tie.Need-store-ok-requires
+store-ok-requires c κs = search needs
+
+and-requires-2 : tie.Need-and-requires-2
+and-requires-2 c κs = search needs
+
+and-requires-3 : tie.Need-and-requires-3
+and-requires-3 c κs = search needs
+
+returns : tie.Need-returns
+returns c =
+    let outer = c .before in
+    let inner = outer .before .before in
+    c .and3 .ensures
+    ∙ (λ j. ltb (inner .before .before .before .args .i) 16 && (outer .and2 .ensures
+    ∙ (λ i. (inner .and .ensures ∙ (λ k. inner .before .before .frame-ok .ensures k && inner .before .work-ok .ensures k)) i && outer .before .store-ok .ensures i)) j)
+
+pub line-room-spec : {M : Type 1} → statement M
+line-room-spec =
+    tie.close
+    (tie.spec
+    frame-ok-requires
+    work-ok-requires
+    and-requires
+    store-ok-requires
+    and-requires-2
+    and-requires-3
+    returns)

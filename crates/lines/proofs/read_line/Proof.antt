@@ -1,0 +1,50 @@
+-- `lines::read_line` meets its contract. Assumes nothing.
+use native.Mathlib.Omega.{arith}
+use borrow.Author.Needs.{needs}
+use denote.Ref.{now}
+use mathlib.Core.Path.{_≡_, refl}
+use mathlib.Core.Bool.{false}
+use mathlib.Core.List.{List}
+use Prim.Native.Nat.{ℕ}
+use lib.Ieee.{Float}
+use Rattle.delay.specs.declared.Cursors.{Cursors}
+use Rattle.unit.specs.Model.{wall}
+use Rattle.rows.proofs.Ways.{shut, let-in}
+use Rattle.lines.specs.Parts.{readLaid}
+use Rattle.lines.proofs.ReadLaid.{line-fits}
+use Rattle.lines.proofs.read_line.Statement.{statement}
+use Rattle.lines.proofs.read_line.Tie as tie
+use Rattle.lines.proofs.read_line.Reads as reads
+use Rattle.lines.proofs.read_line.Lts as lts
+use Rattle.lines.proofs.line_room.Reads as line-room-reads
+use Rattle.lines.proofs.wall_read.Reads as wall-read-reads
+
+line-room-requires : tie.Need-line-room-requires
+line-room-requires c κs = search needs
+
+nothing : (f i : ℕ) (k : Cursors) (store work : List Float) → work ≡ readLaid wall f i k false store work
+unfolding readLaid
+nothing f i k store work = refl
+
+returns : tie.Need-returns
+returns c =
+    let a = c .before .before .before .before .args in
+    rw (shut _ _ (c .before .line-room .ensures) (c .if1 .taken)) (nothing (a .f) (a .i) (a .c) (now (a .store)) (now (a .work)))
+
+wall-read-requires : tie.Need-wall-read-requires
+wall-read-requires c κs =
+    let tested = c .before in
+    line-fits _ _ _ _ (let-in _ _ (tested .before .line-room .ensures) (tested .if1 .left))
+
+same-length : tie.Need-same-length
+same-length c = search needs
+
+returns-2 : tie.Need-returns-2
+returns-2 c =
+    let ran = c .before .before in
+    let tested = ran .before .before in
+    rw (let-in _ _ (tested .before .line-room .ensures) (tested .if1 .left)) (ran .wall-read .ensures)
+
+pub read-line-spec : {M : Type 1} → statement M
+read-line-spec =
+    tie.close (tie.spec line-room-requires returns wall-read-requires same-length returns-2)

@@ -1,0 +1,109 @@
+-- `lines::wall_read` meets its contract. Assumes nothing.
+use native.Mathlib.Omega.{arith}
+use borrow.Author.Needs.{needs}
+use denote.Ref.{now}
+use Prim.Native.Nat.{_+_, _*_, _≤_}
+use lib.ListN.{length}
+use Rattle.rows.proofs.RowFits.{row-in}
+use Rattle.unit.proofs.Laws.{store-is}
+use Rattle.lines.proofs.ReadLaid.{ring-within, row-within, read-laid}
+use Rattle.lines.proofs.wall_read.Statement.{statement}
+use Rattle.lines.proofs.wall_read.Tie as tie
+use Rattle.lines.proofs.wall_read.Reads as reads
+use Rattle.lines.proofs.wall_read.Lts as lts
+use Rattle.delay.proofs.get.Reads as get-reads
+use Rattle.lines.proofs.steps.line_start.Reads as line-start-reads
+use Rattle.primes.proofs.delay.Reads as delay-reads
+
+-- line i's ring ends within the store, and its row within the work memory
+module _ (c : lts.After-delay (line-start-reads.Asked, line-start-reads.Learnt, delay-reads.Asked, delay-reads.Learnt, get-reads.Asked, get-reads.Learnt) reads.Pre reads.Post) where
+  abbrev s : lts.Start (line-start-reads.Asked, line-start-reads.Learnt, delay-reads.Asked, delay-reads.Learnt, get-reads.Asked, get-reads.Learnt) reads.Pre reads.Post
+  s = c .before .before .before .before
+
+  ring-ends : c .before .line-start .result + (c .delay .result + s .args .f) ≤ length (now (s .args .store))
+  ring-ends =
+      omega (arith, c .before .line-start .ensures, c .delay .ensures, ring-within (s .args .f) (s .args .i) (now (s .args .store)) (now (s .args .work)) (s .pre .0) (s .pre .2) (s .pre .1))
+
+  row-ends : s .args .f + s .args .i * s .args .f + s .args .f ≤ length (now (s .args .work))
+  row-ends = row-within (s .args .f) (s .args .i) (now (s .args .store)) (now (s .args .work)) (s .pre .0) (s .pre .2) (s .pre .1)
+
+line-start-requires : tie.Need-line-start-requires
+line-start-requires c κs = search needs
+
+delay-requires : tie.Need-delay-requires
+delay-requires c κs = search needs
+
+add-e : tie.Need-add-e
+add-e c = omega (arith, ring-ends c)
+
+add-e-2 : tie.Need-add-e-2
+add-e-2 c = omega (arith, ring-ends c)
+
+mul-b : tie.Need-mul-b
+mul-b c = omega (arith, row-ends c)
+
+add-b : tie.Need-add-b
+add-b c = omega (arith, row-ends c)
+
+add-t : tie.Need-add-t
+add-t c = omega (arith, row-ends c)
+
+mul-get : tie.Need-mul-get
+mul-get c = let p = s c in omega (arith, ring-ends c, p .pre .2, store-is (p .args .f), p .pre .1 .short)
+
+sub-get : tie.Need-sub-get
+sub-get c = search needs
+
+part-get-start : tie.Need-part-get-start
+part-get-start c = search needs
+
+part-get-end : tie.Need-part-get-end
+part-get-end c = omega (arith, ring-ends c)
+
+mul-get-2 : tie.Need-mul-get-2
+mul-get-2 c = let p = s (c .before) in omega (arith, row-in (p .args .i) (p .args .f) (p .pre .0), p .pre .1 .short)
+
+sub-get-2 : tie.Need-sub-get-2
+sub-get-2 c = search needs
+
+part-get-start-2 : tie.Need-part-get-start-2
+part-get-start-2 c = search needs
+
+part-get-end-2 : tie.Need-part-get-end-2
+part-get-end-2 c = omega (arith, row-ends (c .before))
+
+get-requires : tie.Need-get-requires
+get-requires c κs = search needs
+
+same-length : tie.Need-same-length
+same-length c = search needs
+
+returns : tie.Need-returns
+returns c =
+    let got = c .before .before in
+    let d = got .before .before .before in
+    let p = s d in
+    read-laid (p .args .f) (p .args .i) (now (p .args .store)) (now (p .args .work)) (p .pre .0) (p .pre .2) (p .pre .1) (p .args .c) _ _ _ (d .before .line-start .ensures) (d .delay .ensures) (search needs) (got .get .ensures .1)
+
+pub wall-read-spec : {M : Type 1} → statement M
+wall-read-spec =
+    tie.close
+    (tie.spec
+    line-start-requires
+    delay-requires
+    add-e
+    add-e-2
+    mul-b
+    add-b
+    add-t
+    mul-get
+    sub-get
+    part-get-start
+    part-get-end
+    mul-get-2
+    sub-get-2
+    part-get-start-2
+    part-get-end-2
+    get-requires
+    same-length
+    returns)

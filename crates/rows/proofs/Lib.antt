@@ -1,0 +1,10 @@
+pub mod Ways
+pub mod Stretches
+pub mod RowsLeft
+pub mod RowAt
+pub mod SumTurns
+pub mod BandTurns
+pub mod RowJoins
+pub mod RowsOf
+pub mod RowFits
+pub mod LineLaid

@@ -1,0 +1,62 @@
+-- `rows::output_row` meets its contract. Assumes nothing.
+use native.Mathlib.Omega.{arith}
+use borrow.Author.Needs.{needs}
+use denote.Ref.{now}
+use mathlib.Core.Path.{_≡_, refl}
+use mathlib.Core.Bool.{true, false}
+use mathlib.Core.List.{List, _++_}
+use Prim.Native.Nat.{ℕ, _+_, _*_}
+use lib.Ieee.{Float}
+use lib.ListN.{length, take}
+use Rattle.samples.specs.Lists.{over}
+use Rattle.delay.specs.declared.Cursors.{Cursors}
+use Rattle.iir.specs.declared.Filter.{Filter}
+use Rattle.rows.specs.Fits.{outputFits}
+use Rattle.rows.specs.Steps.{outputFrom, outputMade, outputAfter}
+use Rattle.rows.proofs.Ways.{shut, let-in}
+use Rattle.rows.proofs.RowFits.{output-of}
+use Rattle.rows.proofs.output_row.Statement.{statement}
+use Rattle.rows.proofs.output_row.Tie as tie
+use Rattle.rows.proofs.output_row.Reads as reads
+use Rattle.rows.proofs.output_row.Lts as lts
+use Rattle.rows.proofs.fits.output_fits.Reads as output-fits-reads
+use Rattle.rows.proofs.passes.output_in.Reads as output-in-reads
+
+output-fits-requires : tie.Need-output-fits-requires
+output-fits-requires c κs = search needs
+
+nothing : (n f : ℕ) (d : Float) (ps : List ℕ) (qs : List Cursors) (fs : List Filter) (rows : List Float) → outputFits n f ps (length rows) ≡ false
+    → (fs ≡ outputAfter n f d ps qs fs rows) × (rows ≡ outputMade n f d ps qs fs rows)
+unfolding outputAfter outputMade
+nothing n f d ps qs fs rows e = rw e (refl, refl)
+
+all : (n f : ℕ) (d : Float) (ps : List ℕ) (qs : List Cursors) (fs gs : List Filter) (rows w : List Float) → outputFits n f ps (length rows) ≡ true
+    → let r = outputFrom n f d ps qs fs rows in
+    (gs ≡ over (3 * n) (r .filters) fs) × (w ≡ take (n * f + n * f) rows ++ (r .out ++ r .rings))
+    → (gs ≡ outputAfter n f d ps qs fs rows) × (w ≡ outputMade n f d ps qs fs rows)
+unfolding outputAfter outputMade
+all n f d ps qs fs gs rows w e p = rw e p
+
+returns : tie.Need-returns
+returns c =
+    let a = c .before .before .before .args in
+    nothing (a .n) (a .f) (a .divisor) (a .ps) (a .qs) (a .fs) (now (a .rows)) (shut _ _ (c .before .output-fits .ensures) (c .if1 .taken))
+
+output-in-requires : tie.Need-output-in-requires
+output-in-requires c κs =
+    let tested = c .before in
+    output-of _ _ _ _ (let-in _ _ (tested .before .output-fits .ensures) (tested .if1 .left))
+
+same-length : tie.Need-same-length
+same-length c = search needs
+
+returns-2 : tie.Need-returns-2
+returns-2 c =
+    let ran = c .before .before in
+    let tested = ran .before .before in
+    let a = tested .before .before .before .args in
+    all (a .n) (a .f) (a .divisor) (a .ps) (a .qs) (a .fs) _ (now (a .rows)) _ (let-in _ _ (tested .before .output-fits .ensures) (tested .if1 .left)) (ran .output-in .ensures)
+
+pub output-row-spec : {M : Type 1} → statement M
+output-row-spec =
+    tie.close (tie.spec output-fits-requires returns output-in-requires same-length returns-2)

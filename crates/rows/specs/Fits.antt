@@ -1,0 +1,32 @@
+-- What the steps on rows ask of the memory lent.
+use Prim.Native.Nat.{ℕ, _+_, _*_, _%_, _<_, _≤_}
+use mathlib.Core.Path.{_≡_}
+use mathlib.Core.Bool.{Bool, _&&_}
+use mathlib.Core.List.{List}
+use lib.Dec.{leb, eqb}
+use Rattle.samples.specs.Sizes.{frameOk}
+use Rattle.unit.specs.Model.{Model}
+use Rattle.unit.specs.Sizes.{total, workLen}
+
+-- from 1 to 16 lines, and rows of up to 65,536 samples
+unfoldable pub fewRows : ℕ → ℕ → Bool
+fewRows n f = leb 1 n && (leb n 16 && leb f 65536)
+
+-- `len` floats are the input, n rows read and n mixed
+unfoldable pub linesFit : ℕ → ℕ → ℕ → Bool
+linesFit n f len = fewRows n f && eqb len (f + n * f + n * f)
+
+-- `len` floats are n rows read, n mixed, the output, and allpass rings of the lengths ps
+unfoldable pub outputFits : ℕ → ℕ → List ℕ → ℕ → Bool
+outputFits n f ps len = fewRows n f && (eqb (f % 4) 0 && eqb len (n * f + n * f + f + total ps))
+
+-- a work memory is one of frames of f samples
+abbrev pub workFor : Model → ℕ → ℕ → Bool
+workFor m f work = frameOk f && eqb work (workLen m f)
+
+-- what that gives
+pub record WorkFits (m : Model) (f work : ℕ) : Type 0 where
+  pub some : 0 < f
+  pub short : f ≤ 1024
+  pub fours : f % 4 ≡ 0
+  pub work-is : work ≡ f + m .lines * f + m .lines * f + f + total (m .passes)

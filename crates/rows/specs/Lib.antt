@@ -1,0 +1,4 @@
+pub mod Rows
+pub mod Fits
+pub mod Steps
+pub mod Parts

@@ -1,0 +1,44 @@
+-- How the work memory of a frame lies, and rows that lie one after the other.
+use Prim.Native.Nat.{ℕ, zero, suc, _+_, _*_}
+use mathlib.Core.List.{List, _++_}
+use lib.Ieee.{Float}
+use lib.ListN.{take, drop}
+use Rattle.unit.specs.Model.{Model}
+
+-- row i of rows of f, and the rows with r in its place
+abbrev pub row : {A : Type 0} → ℕ → ℕ → List A → List A
+row f zero rows = take f rows
+row f (suc i) rows = row f i (drop f rows)
+
+unfoldable pub setRow : {A : Type 0} → ℕ → ℕ → List A → List A → List A
+setRow f zero r rows = r ++ drop f rows
+setRow f (suc i) r rows = take f rows ++ setRow f i r (drop f rows)
+
+-- the work memory: the input, the rows read, the rows mixed, which become those to put, the output and the allpass rings
+pub record Rows : Type 0 where
+  pub input : List Float
+  pub reads : List Float
+  pub mixed : List Float
+  pub output : List Float
+  pub rings : List Float
+
+-- the work memory of a frame of f cut so
+unfoldable pub rowsOf : Model → ℕ → List Float → Rows
+rowsOf m f work =
+    let k = m .lines * f in
+    record {
+      input = take f work;
+      reads = take k (drop f work);
+      mixed = take k (drop (f + k) work);
+      output = take f (drop (f + k + k) work);
+      rings = drop (f + k + k + f) work;
+    }
+
+-- and joined again
+unfoldable pub joined : Rows → List Float
+joined r = r .input ++ (r .reads ++ (r .mixed ++ (r .output ++ r .rings)))
+
+-- the work memory with these parts
+abbrev pub laid : List Float → List Float → List Float → List Float → List Float → List Float
+laid input reads mixed output rings =
+    joined (record { input = input; reads = reads; mixed = mixed; output = output; rings = rings })

@@ -1,0 +1,61 @@
+// Whether the memory lent is what the steps ask, judged without a sum that may not fit.
+use samples::and;
+use samples::frame_ok;
+use unit::work_ok;
+ghost use mathlib.Core.Path.{_≡_};
+ghost use lib.Dec.{eqb};
+ghost use Rattle.unit.specs.Model.{wall};
+ghost use Rattle.unit.specs.Sizes.{total};
+ghost use Rattle.rows.specs.Fits.{fewRows, linesFit, outputFits, workFor};
+
+// From 1 to 16 lines, and rows of up to 65,536 samples.
+pub(crate) fn few_rows(n: usize, f: usize) -> bool
+    ensures { λ r. ⌜ r ≡ fewRows n f ⌝ }
+{
+    and(1 <= n, and(n <= 16, f <= 65536))
+}
+
+// The input, n rows read and n mixed.
+pub(crate) fn lines_fit(n: usize, f: usize, len: usize) -> bool
+    ensures { λ r. ⌜ r ≡ linesFit n f len ⌝ }
+{
+    if !few_rows(n, f) {
+        return false;
+    }
+    len == f + n * f + n * f
+}
+
+// Whole rows read, mixed and of the output, and the allpass rings.
+pub(crate) fn output_fits(n: usize, f: usize, ps: [usize; 4], len: usize) -> bool
+    ensures { λ r. ⌜ r ≡ outputFits n f ps len ⌝ }
+{
+    if !few_rows(n, f) {
+        return false;
+    }
+    let rows = n * f + n * f + f;
+    if len < rows {
+        return false;
+    }
+    and(f % 4 == 0, sum_to(ps, len - rows))
+}
+
+// Whether the lengths of the rings add up to `len`.
+fn sum_to(ps: [usize; 4], len: usize) -> bool
+    ensures { λ r. ⌜ r ≡ eqb len (total ps) ⌝ }
+{
+    let mut rest = len;
+    for i in 0..4usize {
+        if rest < ps[i] {
+            return false;
+        }
+        rest -= ps[i];
+    }
+    rest == 0
+}
+
+// A work memory of frames of f samples.
+pub(crate) fn work_for(f: usize, work: usize) -> bool
+    ensures { λ r. ⌜ r ≡ workFor wall f work ⌝ }
+{
+    and(frame_ok(f), work_ok(f, work))
+}

@@ -1,0 +1,58 @@
+// The output of the rows read: their mean, both allpass stages, and the tone's filters.
+use crate::filters::three_at;
+use crate::sums::sum_row;
+use delay::Cursors;
+use iir::Filter;
+ghost use mathlib.Core.Path.{_≡_};
+ghost use mathlib.Core.List.{_++_};
+ghost use Prim.Native.Nat.{_+_, _*_, _/_, _%_, _≤_};
+ghost use lib.ListN.{length, take, drop};
+ghost use Rattle.samples.specs.Lists.{over};
+ghost use Rattle.unit.specs.Sizes.{total};
+ghost use Rattle.frame.specs.Passes.{passOut, passEnd};
+ghost use Rattle.frame.specs.Frame.{stageAt, ringsOf};
+ghost use Rattle.rows.specs.Steps.{outputFrom};
+
+// Both allpass stages over a row, after which their four rings lie.
+pub(crate) fn pass_both(f: usize, ps: [usize; 4], qs: [Cursors; 4], rows: &mut [f32])
+    requires { ⌜ (f ≤ 65536) × (f % 4 ≡ 0) × (length (now rows) ≡ f + total ps) ⌝ }
+    ensures { λ _. ⌜ now (rows .exit)
+        ≡ passOut (f / 4) (stageAt ps qs (drop f (now (rows .entry))) 2) (passOut (f / 4) (stageAt ps qs (drop f (now (rows .entry))) 0) (take f (now (rows .entry))))
+        ++ ringsOf (passEnd (f / 4) (stageAt ps qs (drop f (now (rows .entry))) 0) (take f (now (rows .entry))))
+        (passEnd (f / 4) (stageAt ps qs (drop f (now (rows .entry))) 2) (passOut (f / 4) (stageAt ps qs (drop f (now (rows .entry))) 0) (take f (now (rows .entry))))) ⌝ }
+{
+    let lx = ps[0];
+    let ly = ps[1];
+    let cx = qs[0];
+    let cy = qs[1];
+    frame::pass_stage(rows, f, f, lx, ly, cx, cy);
+    let at = f + lx + ly;
+    let mx = ps[2];
+    let my = ps[3];
+    let dx = qs[2];
+    let dy = qs[3];
+    frame::pass_stage(rows, f, at, mx, my, dx, dy);
+}
+
+// Step 5: `rows` are n rows read, n mixed, the output and the allpass rings. Gives the filters after
+// it.
+pub(crate) fn output_in(
+    n: usize,
+    f: usize,
+    divisor: f32,
+    ps: [usize; 4],
+    qs: [Cursors; 4],
+    fs: [Filter; 51],
+    rows: &mut [f32],
+) -> [Filter; 51]
+    requires { ⌜ (n ≤ 16) × (f ≤ 65536) × (f % 4 ≡ 0) × (length (now rows) ≡ n * f + n * f + f + total ps) ⌝ }
+    ensures { λ r. ⌜ r ≡ over (3 * n) (outputFrom n f divisor ps qs fs (now (rows .entry)) .filters) fs ⌝ }
+    ensures { λ _. ⌜ now (rows .exit) ≡ take (n * f + n * f) (now (rows .entry)) ++ (outputFrom n f divisor ps qs fs (now (rows .entry)) .out ++ outputFrom n f divisor ps qs fs (now (rows .entry)) .rings) ⌝ }
+{
+    let m = n * f;
+    let at = m + m;
+    let e = at + f;
+    sum_row(n, f, divisor, &mut rows[0..e]);
+    pass_both(f, ps, qs, &mut rows[at..]);
+    three_at(3 * n, fs, &mut rows[at..e])
+}
