@@ -171,8 +171,16 @@ use Rattle.turns.proofs.judge_abandon.Kinds as turns-judge-abandon-kinds
 use Rattle.turns.proofs.judge_abandon.Reads as turns-judge-abandon-reads
 use Rattle.lines.proofs.close_frame.Kinds as lines-close-frame-kinds
 use Rattle.lines.proofs.close_frame.Reads as lines-close-frame-reads
+use Rattle.rows.proofs.line_rows.Kinds as rows-line-rows-kinds
+use Rattle.rows.proofs.line_rows.Reads as rows-line-rows-reads
+use Rattle.rows.proofs.output_row.Kinds as rows-output-row-kinds
+use Rattle.rows.proofs.output_row.Reads as rows-output-row-reads
+use Rattle.rows.proofs.make_line.Kinds as rows-make-line-kinds
+use Rattle.rows.proofs.make_line.Reads as rows-make-line-reads
 use Rattle.rows.proofs.make_output.Kinds as rows-make-output-kinds
 use Rattle.rows.proofs.make_output.Reads as rows-make-output-reads
+use Rattle.lines.proofs.read_line.Kinds as lines-read-line-kinds
+use Rattle.lines.proofs.read_line.Reads as lines-read-line-reads
 use Rattle.reverb.proofs.quiet.Kinds as reverb-quiet-kinds
 use Rattle.reverb.proofs.quiet.Reads as reverb-quiet-reads
 use Rattle.reverb.proofs.fallen.Kinds as reverb-fallen-kinds
@@ -185,8 +193,12 @@ use Rattle.jobs.proofs.open_apply.Kinds as jobs-open-apply-kinds
 use Rattle.jobs.proofs.open_apply.Reads as jobs-open-apply-reads
 use Rattle.jobs.proofs.open_tail.Kinds as jobs-open-tail-kinds
 use Rattle.jobs.proofs.open_tail.Reads as jobs-open-tail-reads
+use Rattle.jobs.proofs.job_read.Kinds as jobs-job-read-kinds
+use Rattle.jobs.proofs.job_read.Reads as jobs-job-read-reads
 use Rattle.jobs.proofs.job_mix.Kinds as jobs-job-mix-kinds
 use Rattle.jobs.proofs.job_mix.Reads as jobs-job-mix-reads
+use Rattle.jobs.proofs.job_line.Kinds as jobs-job-line-kinds
+use Rattle.jobs.proofs.job_line.Reads as jobs-job-line-reads
 use Rattle.jobs.proofs.job_output.Kinds as jobs-job-output-kinds
 use Rattle.jobs.proofs.job_output.Reads as jobs-job-output-reads
 
@@ -465,6 +477,32 @@ frame-copy-dst κs a x y s t p q = p ∙ sym (q)
 pub frame-filters-finite : OneResult 0 frame-filters-finite-kinds.ps frame-filters-finite-kinds.r frame-filters-finite-reads.Post
 frame-filters-finite κs a x y s t p q = p ∙ sym (q)
 
+-- ---- rows
+
+pub rows-line-rows : OneResult 1 rows-line-rows-kinds.ps rows-line-rows-kinds.r rows-line-rows-reads.Post
+rows-line-rows κs a x y s t p q = p .0 ∙ sym (q .0)
+
+pub rows-line-rows-rows : OneExit 1 rows-line-rows-kinds.ps rows-line-rows-kinds.r rows-line-rows-reads.Post (λ κs s. s .1 .1 .1 .1 .1 .0 .now)
+rows-line-rows-rows κs a x y s t p q = p .1 ∙ sym (q .1)
+
+pub rows-output-row : OneResult 1 rows-output-row-kinds.ps rows-output-row-kinds.r rows-output-row-reads.Post
+rows-output-row κs a x y s t p q = p .0 ∙ sym (q .0)
+
+pub rows-output-row-rows : OneExit 1 rows-output-row-kinds.ps rows-output-row-kinds.r rows-output-row-reads.Post (λ κs s. s .1 .1 .1 .1 .1 .1 .0 .now)
+rows-output-row-rows κs a x y s t p q = p .1 ∙ sym (q .1)
+
+pub rows-make-line : OneResult 1 rows-make-line-kinds.ps rows-make-line-kinds.r rows-make-line-reads.Post
+rows-make-line κs a x y s t p q = p .0 ∙ sym (q .0)
+
+pub rows-make-line-work : OneExit 1 rows-make-line-kinds.ps rows-make-line-kinds.r rows-make-line-reads.Post (λ κs s. s .1 .1 .1 .1 .0 .now)
+rows-make-line-work κs a x y s t p q = p .1 ∙ sym (q .1)
+
+pub rows-make-output : OneResult 1 rows-make-output-kinds.ps rows-make-output-kinds.r rows-make-output-reads.Post
+rows-make-output κs a x y s t p q = p .0 ∙ sym (q .0)
+
+pub rows-make-output-work : OneExit 1 rows-make-output-kinds.ps rows-make-output-kinds.r rows-make-output-reads.Post (λ κs s. s .1 .1 .1 .0 .now)
+rows-make-output-work κs a x y s t p q = p .1 ∙ sym (q .1)
+
 -- ---- lines
 
 pub lines-filters-of : OneResult 1 lines-filters-of-kinds.ps lines-filters-of-kinds.r lines-filters-of-reads.Post
@@ -494,11 +532,8 @@ lines-close-frame-work κs a x y s t p q = p .1 .1 .0 ∙ sym (q .1 .1 .0)
 pub lines-close-frame-output : OneExit 3 lines-close-frame-kinds.ps lines-close-frame-kinds.r lines-close-frame-reads.Post (λ κs s. s .1 .1 .1 .1 .1 .1 .0 .now)
 lines-close-frame-output κs a x y s t p q = p .1 .1 .1 ∙ sym (q .1 .1 .1)
 
-pub rows-make-output : OneResult 1 rows-make-output-kinds.ps rows-make-output-kinds.r rows-make-output-reads.Post
-rows-make-output κs a x y s t p q = p .0 ∙ sym (q .0)
-
-pub rows-make-output-work : OneExit 1 rows-make-output-kinds.ps rows-make-output-kinds.r rows-make-output-reads.Post (λ κs s. s .1 .1 .1 .0 .now)
-rows-make-output-work κs a x y s t p q = p .1 ∙ sym (q .1)
+pub lines-read-line-work : OneExit 2 lines-read-line-kinds.ps lines-read-line-kinds.r lines-read-line-reads.Post (λ κs s. s .1 .1 .1 .1 .0 .now)
+lines-read-line-work κs a x y s t p q = p ∙ sym (q)
 
 -- ---- reverb
 
@@ -602,11 +637,23 @@ jobs-open-tail κs a x y s t p q = p .0 ∙ sym (q .0)
 pub jobs-open-tail-work : OneExit 2 jobs-open-tail-kinds.ps jobs-open-tail-kinds.r jobs-open-tail-reads.Post (λ κs s. s .1 .1 .0 .now)
 jobs-open-tail-work κs a x y s t p q = p .1 ∙ sym (q .1)
 
+pub jobs-job-read : OneResult 2 jobs-job-read-kinds.ps jobs-job-read-kinds.r jobs-job-read-reads.Post
+jobs-job-read κs a x y s t p q = p .0 ∙ sym (q .0)
+
+pub jobs-job-read-work : OneExit 2 jobs-job-read-kinds.ps jobs-job-read-kinds.r jobs-job-read-reads.Post (λ κs s. s .1 .1 .1 .0 .now)
+jobs-job-read-work κs a x y s t p q = p .1 ∙ sym (q .1)
+
 pub jobs-job-mix : OneResult 1 jobs-job-mix-kinds.ps jobs-job-mix-kinds.r jobs-job-mix-reads.Post
 jobs-job-mix κs a x y s t p q = p .0 ∙ sym (q .0)
 
 pub jobs-job-mix-work : OneExit 1 jobs-job-mix-kinds.ps jobs-job-mix-kinds.r jobs-job-mix-reads.Post (λ κs s. s .1 .0 .now)
 jobs-job-mix-work κs a x y s t p q = p .1 ∙ sym (q .1)
+
+pub jobs-job-line : OneResult 1 jobs-job-line-kinds.ps jobs-job-line-kinds.r jobs-job-line-reads.Post
+jobs-job-line κs a x y s t p q = p .0 ∙ sym (q .0)
+
+pub jobs-job-line-work : OneExit 1 jobs-job-line-kinds.ps jobs-job-line-kinds.r jobs-job-line-reads.Post (λ κs s. s .1 .1 .0 .now)
+jobs-job-line-work κs a x y s t p q = p .1 ∙ sym (q .1)
 
 pub jobs-job-output : OneResult 1 jobs-job-output-kinds.ps jobs-job-output-kinds.r jobs-job-output-reads.Post
 jobs-job-output κs a x y s t p q = p .0 ∙ sym (q .0)

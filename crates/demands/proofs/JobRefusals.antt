@@ -9,19 +9,23 @@ use Rattle.samples.proofs.Laws.{accept-no}
 use Rattle.unit.specs.declared.State.{State}
 use Rattle.unit.specs.Hall.{Hall, ofState, toState}
 use Rattle.unit.specs.Model.{wall}
-use Rattle.turns.specs.Marks.{mixMark, outputMark}
-use Rattle.turns.specs.Turns.{judgedOpenApply, judgedOpenTail, judgedMix, judgedOutput, judgedAbandon}
+use Rattle.turns.specs.Marks.{mixMark, lineMark, outputMark}
+use Rattle.turns.specs.Turns.{judgedOpenApply, judgedOpenTail, judgedRead, judgedMix, judgedLine, judgedOutput, judgedClose, judgedAbandon}
 use Rattle.reverb.specs.declared.Outcome.{Outcome}
 use Rattle.jobs.specs.Play as Play
 use Rattle.jobs.specs.Play.{opened, openWork}
-use Rattle.jobs.specs.Steps.{markedUnit, mixWork, outputWork, outputFilters}
+use Rattle.jobs.specs.Steps.{markedUnit, readWork, mixWork, lineWork, lineFilters, outputWork, outputFilters}
 use Rattle.jobs.specs.Close.{shut, cleared}
 use Rattle.jobs.proofs.open_apply.Kinds as jobs-open-apply-kinds
 use Rattle.jobs.proofs.open_apply.Reads as jobs-open-apply-reads
 use Rattle.jobs.proofs.open_tail.Kinds as jobs-open-tail-kinds
 use Rattle.jobs.proofs.open_tail.Reads as jobs-open-tail-reads
+use Rattle.jobs.proofs.job_read.Kinds as jobs-job-read-kinds
+use Rattle.jobs.proofs.job_read.Reads as jobs-job-read-reads
 use Rattle.jobs.proofs.job_mix.Kinds as jobs-job-mix-kinds
 use Rattle.jobs.proofs.job_mix.Reads as jobs-job-mix-reads
+use Rattle.jobs.proofs.job_line.Kinds as jobs-job-line-kinds
+use Rattle.jobs.proofs.job_line.Reads as jobs-job-line-reads
 use Rattle.jobs.proofs.job_output.Kinds as jobs-job-output-kinds
 use Rattle.jobs.proofs.job_output.Reads as jobs-job-output-reads
 use Rattle.jobs.proofs.abandon.Kinds as jobs-abandon-kinds
@@ -52,11 +56,23 @@ jobs-open-tail-state κs a x s p h = state-kept x (a .0) (judgedOpenTail wall (o
 pub jobs-open-tail-work : Unchanged 2 jobs-open-tail-kinds.ps jobs-open-tail-kinds.r jobs-open-tail-reads.Post (λ κs x. x .answer) (λ κs x s. s .1 .1 .0 .now) (λ κs a. a .1 .1 .0 .now)
 jobs-open-tail-work κs a x s p h = kept (x .answer) (judgedOpenTail wall (ofState (a .0)) (length (a .1 .0 .now)) (length (a .1 .1 .0 .now))) (openWork wall (ofState (a .0)) (replicate (a .0 .frame) +0) (a .1 .0 .now)) (a .1 .1 .0 .now) (p .1) (ap answer-of (p .0)) h
 
+pub jobs-job-read-state : Unchanged 2 jobs-job-read-kinds.ps jobs-job-read-kinds.r jobs-job-read-reads.Post (λ κs x. x .answer) (λ κs x s. x .state) (λ κs a. a .0)
+jobs-job-read-state κs a x s p h = state-kept x (a .0) (judgedRead wall (ofState (a .0)) (a .1 .0) (length (a .1 .1 .0 .now)) (length (a .1 .1 .1 .0 .now))) (markedUnit (ofState (a .0)) (a .1 .0) (a .0 .filters)) (ap answer-of (p .0)) (ap state-of (p .0)) h
+
+pub jobs-job-read-work : Unchanged 2 jobs-job-read-kinds.ps jobs-job-read-kinds.r jobs-job-read-reads.Post (λ κs x. x .answer) (λ κs x s. s .1 .1 .1 .0 .now) (λ κs a. a .1 .1 .1 .0 .now)
+jobs-job-read-work κs a x s p h = kept (x .answer) (judgedRead wall (ofState (a .0)) (a .1 .0) (length (a .1 .1 .0 .now)) (length (a .1 .1 .1 .0 .now))) (readWork wall (ofState (a .0)) (a .1 .0) (a .1 .1 .0 .now) (a .1 .1 .1 .0 .now)) (a .1 .1 .1 .0 .now) (p .1) (ap answer-of (p .0)) h
+
 pub jobs-job-mix-state : Unchanged 1 jobs-job-mix-kinds.ps jobs-job-mix-kinds.r jobs-job-mix-reads.Post (λ κs x. x .answer) (λ κs x s. x .state) (λ κs a. a .0)
 jobs-job-mix-state κs a x s p h = state-kept x (a .0) (judgedMix wall (ofState (a .0)) (length (a .1 .0 .now))) (markedUnit (ofState (a .0)) (mixMark wall) (a .0 .filters)) (ap answer-of (p .0)) (ap state-of (p .0)) h
 
 pub jobs-job-mix-work : Unchanged 1 jobs-job-mix-kinds.ps jobs-job-mix-kinds.r jobs-job-mix-reads.Post (λ κs x. x .answer) (λ κs x s. s .1 .0 .now) (λ κs a. a .1 .0 .now)
 jobs-job-mix-work κs a x s p h = kept (x .answer) (judgedMix wall (ofState (a .0)) (length (a .1 .0 .now))) (mixWork wall (ofState (a .0)) (a .1 .0 .now)) (a .1 .0 .now) (p .1) (ap answer-of (p .0)) h
+
+pub jobs-job-line-state : Unchanged 1 jobs-job-line-kinds.ps jobs-job-line-kinds.r jobs-job-line-reads.Post (λ κs x. x .answer) (λ κs x s. x .state) (λ κs a. a .0)
+jobs-job-line-state κs a x s p h = state-kept x (a .0) (judgedLine wall (ofState (a .0)) (a .1 .0) (length (a .1 .1 .0 .now))) (markedUnit (ofState (a .0)) (lineMark wall (a .1 .0)) (lineFilters wall (ofState (a .0)) (a .1 .0) (a .1 .1 .0 .now))) (ap answer-of (p .0)) (ap state-of (p .0)) h
+
+pub jobs-job-line-work : Unchanged 1 jobs-job-line-kinds.ps jobs-job-line-kinds.r jobs-job-line-reads.Post (λ κs x. x .answer) (λ κs x s. s .1 .1 .0 .now) (λ κs a. a .1 .1 .0 .now)
+jobs-job-line-work κs a x s p h = kept (x .answer) (judgedLine wall (ofState (a .0)) (a .1 .0) (length (a .1 .1 .0 .now))) (lineWork wall (ofState (a .0)) (a .1 .0) (a .1 .1 .0 .now)) (a .1 .1 .0 .now) (p .1) (ap answer-of (p .0)) h
 
 pub jobs-job-output-state : Unchanged 1 jobs-job-output-kinds.ps jobs-job-output-kinds.r jobs-job-output-reads.Post (λ κs x. x .answer) (λ κs x s. x .state) (λ κs a. a .0)
 jobs-job-output-state κs a x s p h = state-kept x (a .0) (judgedOutput wall (ofState (a .0)) (length (a .1 .0 .now))) (markedUnit (ofState (a .0)) (outputMark wall) (outputFilters wall (ofState (a .0)) (a .1 .0 .now))) (ap answer-of (p .0)) (ap state-of (p .0)) h
