@@ -1,11 +1,15 @@
--- "A refusal changes nothing", of the calls of a frame done as jobs: the state, and each lent slice. Assumes nothing.
-use mathlib.Core.Path.{_≡_, sym, ap, _∙_}
-use mathlib.Core.Bool.{false}
+-- "A refusal changes nothing", of the calls of a frame done as jobs: the state, and each lent slice. A 9 at close clears the work memory, and
+-- gives the state from before the open. Assumes nothing.
+use mathlib.Core.Path.{_≡_, refl, sym, ap, _∙_}
+use mathlib.Core.Bool.{Bool, true, false, true≢false}
+use mathlib.Core.List.{List, []}
+use lib.Ieee.{Float}
 use lib.ListN.{length, replicate}
 use Rattle.samples.specs.declared.Answer.{Answer}
+use Rattle.samples.specs.declared.Answer.the-variants.{NotFinite}
 use Rattle.samples.specs.Answers.{accept, accepted}
 use Rattle.samples.specs.Binary32.{+0}
-use Rattle.samples.proofs.Laws.{accept-no}
+use Rattle.samples.proofs.Laws.{accept-no, accept-yes}
 use Rattle.unit.specs.declared.State.{State}
 use Rattle.unit.specs.Hall.{Hall, ofState, toState}
 use Rattle.unit.specs.Model.{wall}
@@ -15,7 +19,9 @@ use Rattle.reverb.specs.declared.Outcome.{Outcome}
 use Rattle.jobs.specs.Play as Play
 use Rattle.jobs.specs.Play.{opened, openWork}
 use Rattle.jobs.specs.Steps.{markedUnit, readWork, mixWork, lineWork, lineFilters, outputWork, outputFilters}
-use Rattle.jobs.specs.Close.{shut, cleared}
+use Rattle.rows.specs.Rows.{Rows, rowsOf}
+use Rattle.lines.specs.Parts.{rowsFinite}
+use Rattle.jobs.specs.Close.{shut, cleared, closed, nineOfRows, closeAnswer, closeUnit, closeStore, closeWork, closeOutput}
 use Rattle.jobs.proofs.open_apply.Kinds as jobs-open-apply-kinds
 use Rattle.jobs.proofs.open_apply.Reads as jobs-open-apply-reads
 use Rattle.jobs.proofs.open_tail.Kinds as jobs-open-tail-kinds
@@ -28,10 +34,13 @@ use Rattle.jobs.proofs.job_line.Kinds as jobs-job-line-kinds
 use Rattle.jobs.proofs.job_line.Reads as jobs-job-line-reads
 use Rattle.jobs.proofs.job_output.Kinds as jobs-job-output-kinds
 use Rattle.jobs.proofs.job_output.Reads as jobs-job-output-reads
+use Rattle.jobs.proofs.close.Kinds as jobs-close-kinds
+use Rattle.jobs.proofs.close.Reads as jobs-close-reads
 use Rattle.jobs.proofs.abandon.Kinds as jobs-abandon-kinds
 use Rattle.jobs.proofs.abandon.Reads as jobs-abandon-reads
-use Rattle.demands.specs.Determined.{Unchanged}
+use Rattle.demands.specs.Determined.{Unchanged, Cleared, UnchangedBut9, Shuts}
 use Rattle.demands.proofs.Refusals.{kept}
+use Rattle.demands.proofs.UnitRefusals.{isNine, nine-clears, due-refuses, judged-not-nine}
 
 abbrev answer-of : Outcome → Answer
 answer-of x = x .answer
@@ -85,3 +94,66 @@ jobs-abandon-state κs a x s p h = state-kept x (a .0) (judgedAbandon wall (ofSt
 
 pub jobs-abandon-work : Unchanged 1 jobs-abandon-kinds.ps jobs-abandon-kinds.r jobs-abandon-reads.Post (λ κs x. x .answer) (λ κs x s. s .1 .0 .now) (λ κs a. a .1 .0 .now)
 jobs-abandon-work κs a x s p h = kept (x .answer) (judgedAbandon wall (ofState (a .0)) (length (a .1 .0 .now))) (cleared (a .1 .0 .now)) (a .1 .0 .now) (p .1) (ap answer-of (p .0)) h
+
+-- ---- close: what one that is due `due` leaves of a unit u, its rows r, where its answer, which is `a`, refuses
+
+module _ (u : Hall) (due a : Answer) (r : Rows) (e : a ≡ closeAnswer due u r) where
+  abbrev ok : Bool
+  ok = rowsFinite (u .filters) r
+
+  module _ (h : accepted a ≡ false) where
+    refused : accepted (closeAnswer due u r) ≡ false
+    refused = sym (ap accepted e) ∙ h
+
+    store-kept : (store : List Float) → closeStore wall u due r store ≡ store
+    unfolding closeStore
+    store-kept store = accept-no (closeAnswer due u r) _ store refused
+
+    output-kept : (output : List Float) → closeOutput u due r output ≡ output
+    unfolding closeOutput
+    output-kept output = accept-no (closeAnswer due u r) (r .output) output refused
+
+    module _ (n : a ≡ NotFinite → ⊥) where
+      unit-kept : closeUnit wall u due r ≡ u
+      unfolding closeUnit
+      unit-kept = accept-no due _ u (due-refuses due a ok [] e h n)
+
+      work-kept : (work : List Float) → closeWork due work ≡ work
+      unfolding closeWork
+      work-kept work = accept-no due (cleared work) work (due-refuses due a ok work e h n)
+
+  module _ (d : isNine due ≡ false) (h : a ≡ NotFinite) where
+    work-cleared : (work : List Float) → closeWork due work ≡ cleared work
+    unfolding closeWork
+    work-cleared work = nine-clears due a ok work e d h
+
+    -- "state from before the open"
+    unit-shut : closeUnit wall u due r ≡ shut wall u
+    unfolding closeUnit
+    unit-shut = go (accepted due) refl
+      where
+        go : (b : Bool) → accepted due ≡ b → accept due (accept (nineOfRows (u .filters) r) (closed wall u) (shut wall u)) u ≡ shut wall u
+        go true q =
+            let k : nineOfRows (u .filters) r ≡ NotFinite = sym (accept-yes due (nineOfRows (u .filters) r) due q) ∙ sym e ∙ h in
+            accept-yes due _ u q ∙ accept-no (nineOfRows (u .filters) r) (closed wall u) (shut wall u) (ap accepted k)
+        go false q = absurd (true≢false (sym (ap isNine (sym (accept-no due (nineOfRows (u .filters) r) due q) ∙ sym e ∙ h)) ∙ d))
+
+pub jobs-close-store : Unchanged 3 jobs-close-kinds.ps jobs-close-kinds.r jobs-close-reads.Post (λ κs x. x .answer) (λ κs x s. s .1 .0 .now) (λ κs a. a .1 .0 .now)
+jobs-close-store κs a x s p h = p .1 .0 ∙ store-kept (ofState (a .0)) (judgedClose wall (ofState (a .0)) (length (a .1 .0 .now)) (length (a .1 .1 .0 .now)) (length (a .1 .1 .1 .0 .now))) (x .answer) (rowsOf wall (a .0 .frame) (a .1 .1 .0 .now)) (ap answer-of (p .0)) h (a .1 .0 .now)
+
+pub jobs-close-output : Unchanged 3 jobs-close-kinds.ps jobs-close-kinds.r jobs-close-reads.Post (λ κs x. x .answer) (λ κs x s. s .1 .1 .1 .0 .now) (λ κs a. a .1 .1 .1 .0 .now)
+jobs-close-output κs a x s p h = p .1 .1 .1 ∙ output-kept (ofState (a .0)) (judgedClose wall (ofState (a .0)) (length (a .1 .0 .now)) (length (a .1 .1 .0 .now)) (length (a .1 .1 .1 .0 .now))) (x .answer) (rowsOf wall (a .0 .frame) (a .1 .1 .0 .now)) (ap answer-of (p .0)) h (a .1 .1 .1 .0 .now)
+
+pub jobs-close-state : UnchangedBut9 3 jobs-close-kinds.ps jobs-close-kinds.r jobs-close-reads.Post (λ κs x. x .answer) (λ κs x s. x .state) (λ κs a. a .0)
+jobs-close-state κs a x s p h n = ap state-of (p .0) ∙ ap toState (unit-kept (ofState (a .0)) (judgedClose wall (ofState (a .0)) (length (a .1 .0 .now)) (length (a .1 .1 .0 .now)) (length (a .1 .1 .1 .0 .now))) (x .answer) (rowsOf wall (a .0 .frame) (a .1 .1 .0 .now)) (ap answer-of (p .0)) h n)
+
+pub jobs-close-work : UnchangedBut9 3 jobs-close-kinds.ps jobs-close-kinds.r jobs-close-reads.Post (λ κs x. x .answer) (λ κs x s. s .1 .1 .0 .now) (λ κs a. a .1 .1 .0 .now)
+jobs-close-work κs a x s p h n = p .1 .1 .0 ∙ work-kept (ofState (a .0)) (judgedClose wall (ofState (a .0)) (length (a .1 .0 .now)) (length (a .1 .1 .0 .now)) (length (a .1 .1 .1 .0 .now))) (x .answer) (rowsOf wall (a .0 .frame) (a .1 .1 .0 .now)) (ap answer-of (p .0)) h n (a .1 .1 .0 .now)
+
+pub jobs-close-cleared : Cleared 3 jobs-close-kinds.ps jobs-close-kinds.r jobs-close-reads.Post (λ κs x. x .answer) (λ κs x s. s .1 .1 .0 .now) (λ κs a. a .1 .1 .0 .now)
+jobs-close-cleared κs a x s p h =
+    p .1 .1 .0 ∙ work-cleared (ofState (a .0)) (judgedClose wall (ofState (a .0)) (length (a .1 .0 .now)) (length (a .1 .1 .0 .now)) (length (a .1 .1 .1 .0 .now))) (x .answer) (rowsOf wall (a .0 .frame) (a .1 .1 .0 .now)) (ap answer-of (p .0)) (judged-not-nine (ofState (a .0)) _ true _) h (a .1 .1 .0 .now)
+
+pub jobs-close-shut : Shuts 3 jobs-close-kinds.ps jobs-close-kinds.r jobs-close-reads.Post (λ κs x. x .answer) (λ κs x. x .state) (λ κs a. toState (shut wall (ofState (a .0))))
+jobs-close-shut κs a x s p h =
+    ap state-of (p .0) ∙ ap toState (unit-shut (ofState (a .0)) (judgedClose wall (ofState (a .0)) (length (a .1 .0 .now)) (length (a .1 .1 .0 .now)) (length (a .1 .1 .1 .0 .now))) (x .answer) (rowsOf wall (a .0 .frame) (a .1 .1 .0 .now)) (ap answer-of (p .0)) (judged-not-nine (ofState (a .0)) _ true _) h)

@@ -62,7 +62,7 @@ reverb-reset-state κs a x s p h =
 -- ---- whole calls
 
 -- whether an answer is 9
-abbrev isNine : Answer → Bool
+abbrev pub isNine : Answer → Bool
 isNine a = eqb (numberOf a) 9
 
 -- a frame's own judgement refuses with 9 alone
@@ -95,7 +95,7 @@ not-nine : (ok : Bool) (bad rest : Answer) → isNine bad ≡ false → isNine r
 not-nine true bad rest b r = r
 not-nine false bad rest b r = b
 
-judged-not-nine : (u : Hall) (lengths line turn : Bool) → isNine (judged wall u lengths line turn) ≡ false
+pub judged-not-nine : (u : Hall) (lengths line turn : Bool) → isNine (judged wall u lengths line turn) ≡ false
 unfolding judged
 judged-not-nine u lengths line turn =
     not-nine (inRange wall u) BadState _ refl (not-nine lengths BadLength _ refl (not-nine line BadIndex _ refl (not-nine turn OutOfTurn Accepted refl refl)))
@@ -119,27 +119,34 @@ apply-not-nine u t coefficients input store work output =
     or-not-nine (judged wall u lengths true (not (u .busy))) (judgedGiven t coefficients input)
     (judged-not-nine u lengths true (not (u .busy))) (given-not-nine t coefficients input)
 
-module _ (due a : Answer) (r : Frame) (work : List Float) (e : a ≡ wholeAnswer due r) where
+-- the memory of a call that is due `due`, and whose frame is `ok` or answered 9
+module _ (due a : Answer) (ok : Bool) (work : List Float) (e : a ≡ orElse due (need ok NotFinite Accepted)) where
   -- where the frame was judged, the memory is cleared
-  work-cleared : isNine due ≡ false → a ≡ NotFinite → wholeWork due work ≡ replicate (length work) +0
-  unfolding wholeWork
-  work-cleared d h = go (accepted due) refl
+  pub nine-clears : isNine due ≡ false → a ≡ NotFinite → accept due (replicate (length work) +0) work ≡ replicate (length work) +0
+  nine-clears d h = go (accepted due) refl
     where
       go : (b : Bool) → accepted due ≡ b → accept due (replicate (length work) +0) work ≡ replicate (length work) +0
       go true q = accept-yes due (replicate (length work) +0) work q
-      go false q = absurd (true≢false (sym (ap isNine (sym (accept-no due (nineOf r) due q) ∙ sym e ∙ h)) ∙ d))
+      go false q = absurd (true≢false (sym (ap isNine (sym (accept-no due (need ok NotFinite Accepted) due q) ∙ sym e ∙ h)) ∙ d))
 
-  -- where it was not, it is as it was
+  -- where it was not, the call is refused by what was due
+  pub due-refuses : accepted a ≡ false → (a ≡ NotFinite → ⊥) → accepted due ≡ false
+  due-refuses h n = go (accepted due) refl
+    where
+      go : (b : Bool) → accepted due ≡ b → accepted due ≡ false
+      go true q =
+          let k : a ≡ need ok NotFinite Accepted = e ∙ accept-yes due (need ok NotFinite Accepted) due q in
+          absurd (n (k ∙ nine-only ok (sym (ap accepted k) ∙ h)))
+      go false q = q
+
+module _ (due a : Answer) (r : Frame) (work : List Float) (e : a ≡ wholeAnswer due r) where
+  work-cleared : isNine due ≡ false → a ≡ NotFinite → wholeWork due work ≡ replicate (length work) +0
+  unfolding wholeWork
+  work-cleared d h = nine-clears due a (frameFinite r) work e d h
+
   work-kept : accepted a ≡ false → (a ≡ NotFinite → ⊥) → wholeWork due work ≡ work
   unfolding wholeWork
-  work-kept h n = go (accepted due) refl
-    where
-      go : (b : Bool) → accepted due ≡ b → accept due (replicate (length work) +0) work ≡ work
-      go true q = absurd (n (e ∙ answered (e ∙ accept-yes due (nineOf r) due q)))
-        where
-          answered : a ≡ nineOf r → wholeAnswer due r ≡ NotFinite
-          answered k = accept-yes due (nineOf r) due q ∙ nine-only (frameFinite r) (sym (ap accepted k) ∙ h)
-      go false q = accept-no due (replicate (length work) +0) work q
+  work-kept h n = accept-no due (replicate (length work) +0) work (due-refuses due a (frameFinite r) work e h n)
 
 -- ---- apply
 

@@ -55,3 +55,9 @@ module _ (n : ℕ) (ps : List (Kinds'.PK n)) (r : Kinds'.RK n) (post : Kinds'.Ou
   UnchangedBut9 answer left given =
       (κs : Lifetimes.Lfts n) (a : Kinds'.Dens κs ps) (x : Result κs) (s : Exits κs) → post κs a x s
       → accepted (answer κs x) ≡ false → (answer κs x ≡ NotFinite → ⊥) → left κs x s ≡ given κs a
+
+  -- "9 .. state from before the open"
+  abbrev pub Shuts : {A : Type 0} → ((κs : Lifetimes.Lfts n) → Result κs → Answer) → ((κs : Lifetimes.Lfts n) → Result κs → A)
+      → ((κs : Lifetimes.Lfts n) → Kinds'.Dens κs ps → A) → Type 0
+  Shuts answer left before =
+      (κs : Lifetimes.Lfts n) (a : Kinds'.Dens κs ps) (x : Result κs) (s : Exits κs) → post κs a x s → answer κs x ≡ NotFinite → left κs x ≡ before κs a
