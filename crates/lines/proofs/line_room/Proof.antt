@@ -1,5 +1,4 @@
 -- `lines::line_room` meets its contract. Assumes nothing.
-use native.Mathlib.Omega.{arith}
 use borrow.Author.Needs.{needs}
 use mathlib.Core.Path.{_∙_}
 use mathlib.Core.Bool.{_&&_}

@@ -1,5 +1,4 @@
 -- `rows::lines_in` meets its contract. Assumes nothing.
-use native.Mathlib.Omega.{arith}
 use borrow.Author.Needs.{needs}
 use denote.Ref.{now}
 use Rattle.rows.proofs.RowJoins.{lines-join}

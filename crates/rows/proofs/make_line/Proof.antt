@@ -1,5 +1,4 @@
 -- `rows::make_line` meets its contract. Assumes nothing.
-use native.Mathlib.Omega.{arith}
 use borrow.Author.Needs.{needs}
 use borrow.Author.Tests.{ltb-true}
 use denote.Ref.{now}

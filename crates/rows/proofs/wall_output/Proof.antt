@@ -1,5 +1,4 @@
 -- `rows::wall_output` meets its contract. Assumes nothing.
-use native.Mathlib.Omega.{arith}
 use borrow.Author.Needs.{needs}
 use denote.Ref.{now}
 use Rattle.rows.proofs.RowsOf.{laid-output}

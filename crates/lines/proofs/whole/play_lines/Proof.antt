@@ -1,5 +1,4 @@
 -- `lines::whole::play_lines` meets its contract. Assumes nothing.
-use native.Mathlib.Omega.{arith}
 use borrow.Author.Needs.{needs}
 use denote.Ref.{now}
 use Rattle.lines.proofs.RowJoins.{lines-join}

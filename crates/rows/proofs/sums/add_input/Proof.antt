@@ -1,5 +1,4 @@
 -- `rows::sums::add_input` meets its contract. Assumes nothing.
-use native.Mathlib.Omega.{arith}
 use borrow.Author.Needs.{needs}
 use Rattle.rows.proofs.sums.add_input.Statement.{statement}
 use Rattle.rows.proofs.sums.add_input.Tie as tie
