@@ -1,0 +1,31 @@
+-- `hall::open_frames::hall_close` meets its contract. Assumes nothing.
+use borrow.Author.Needs.{needs}
+use mathlib.Core.Path.{ap, _∙_}
+use Rattle.hall.specs.Face.{faced}
+use Rattle.hall.proofs.open_frames.hall_close.Statement.{statement}
+use Rattle.hall.proofs.open_frames.hall_close.Tie as tie
+
+close-requires : tie.Need-close-requires
+close-requires c κs = search needs
+
+faced-requires : tie.Need-faced-requires
+faced-requires c κs = search needs
+
+same-length : tie.Need-same-length
+same-length c = search needs
+
+same-length-2 : tie.Need-same-length-2
+same-length-2 c = search needs
+
+same-length-3 : tie.Need-same-length-3
+same-length-3 c = search needs
+
+returns : tie.Need-returns
+returns c =
+    let called = c .before .before .before .before .before .before .before .close .ensures in
+    (c .faced .ensures ∙ ap faced (called .0), called .1)
+
+pub hall-close-spec : {M : Type 1} → statement M
+hall-close-spec =
+    tie.close
+    (tie.spec close-requires faced-requires same-length same-length-2 same-length-3 returns)

@@ -1,0 +1,23 @@
+-- `hall::rings::hall_ring_reset` meets its contract. Assumes nothing.
+use borrow.Author.Needs.{needs}
+use mathlib.Core.Path.{ap, _∙_}
+use Rattle.hall.specs.Face.{facedRing}
+use Rattle.hall.proofs.rings.hall_ring_reset.Statement.{statement}
+use Rattle.hall.proofs.rings.hall_ring_reset.Tie as tie
+
+reset-requires : tie.Need-reset-requires
+reset-requires c κs = search needs
+
+faced-ring-requires : tie.Need-faced-ring-requires
+faced-ring-requires c κs = search needs
+
+same-length : tie.Need-same-length
+same-length c = search needs
+
+returns : tie.Need-returns
+returns c =
+    let called = c .before .before .before .reset .ensures in
+    (c .faced-ring .ensures ∙ ap facedRing (called .0), called .1)
+
+pub hall-ring-reset-spec : {M : Type 1} → statement M
+hall-ring-reset-spec = tie.close (tie.spec reset-requires faced-ring-requires same-length returns)

@@ -1,0 +1,48 @@
+-- What C is answered: structs of numbers, since C has no enum that carries an index.
+use mathlib.Core.Bool.{Bool, true, false}
+use lib.Ieee.{Float}
+use Rattle.samples.specs.Answers.{numberOf, indexOf}
+use Rattle.audio_buffer.specs.declared.AudioEffectState.{AudioEffectState}
+use Rattle.audio_buffer.specs.declared.AudioEffectState.the-variants.{TailRemaining, TailComplete}
+use Rattle.bands.specs.declared.Times.{Times}
+use Rattle.delay.specs.declared.Four.{Four}
+use Rattle.delay.specs.declared.FourAnswer.{FourAnswer}
+use Rattle.delay.specs.declared.RingAnswer.{RingAnswer}
+use Rattle.primes.specs.declared.Value.{Value}
+use Rattle.reverb.specs.declared.Outcome.{Outcome}
+use Rattle.hall.specs.declared.HallAnswer.{HallAnswer}
+use Rattle.hall.specs.declared.HallFourAnswer.{HallFourAnswer}
+use Rattle.hall.specs.declared.HallRingAnswer.{HallRingAnswer}
+use Rattle.hall.specs.declared.HallValue.{HallValue}
+
+-- the verdict as one of two
+abbrev pub remains : AudioEffectState → Bool
+remains TailRemaining = true
+remains TailComplete = false
+
+-- a call of the unit: "Numbers a call may answer with", "8 .. with the index of the first one", the verdict, and the state
+unfoldable pub faced : Outcome → HallAnswer
+faced o = record {
+  number = numberOf (o .answer);
+  index = indexOf (o .answer);
+  remaining = remains (o .verdict);
+  state = o .state;
+}
+
+-- a call of a ring alone, without and with four samples
+unfoldable pub facedRing : RingAnswer → HallRingAnswer
+facedRing r = record { number = numberOf (r .answer); cursors = r .cursors }
+
+unfoldable pub facedFour : FourAnswer → HallFourAnswer
+facedFour r = record { number = numberOf (r .answer); cursors = r .cursors; x = r .x }
+
+-- a delay value
+unfoldable pub facedValue : Value → HallValue
+facedValue v = record { number = numberOf (v .answer); value = v .value }
+
+-- what C passes number by number: the times of the three bands, and four samples
+abbrev pub times : Float → Float → Float → Times
+times t0 t1 t2 = record { low = t0; mid = t1; high = t2 }
+
+abbrev pub four : Float → Float → Float → Float → Four
+four x0 x1 x2 x3 = record { 0 = x0; 1 = x1; 2 = x2; 3 = x3 }
