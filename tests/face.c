@@ -1,7 +1,7 @@
 /* Tests of the C face: include/hall.h against libhall.a.
  *
  * That the two agree on the layout of every struct is checked by calls: each field of a state is given a value on
- * which an answer depends. Then frames are played whole and as jobs, every number of the table is met, and after each
+ * which an answer depends, and each answer is written to a place with a margin behind it. Then frames are played whole and as jobs, every number of the table is met, and after each
  * refusal the bytes of every lent slice are compared, the payloads of NaNs too. */
 
 #include "hall.h"
@@ -432,6 +432,60 @@ static void layout_of_the_cursors(void) {
     CHECK(slice(STORE)[line_length(0, 4) + 10] == (float)(line_length(0, 4) + 10));
 }
 
+/* An answer too large for registers is written to a place that the caller names by a hidden first argument, as x86-64
+ * has it. Here the place is named openly, with a margin behind it. What hall_apply is given last lies on the stack
+ * behind the state, so that the frames played below would be refused if the state's size were another. */
+enum { BEHIND = 64 };
+
+typedef struct {
+    hall_answer whole; /* the largest answer, for its alignment */
+    unsigned char behind[BEHIND];
+} place;
+
+static place answered;
+
+/* The place; its bytes and those behind it are not zero. */
+static void *room(void) {
+    return memset(&answered, 0xa5, sizeof answered);
+}
+
+/* The answer ends at its size: its last four bytes before the padding were written, and none behind it. */
+static bool ends_at(const void *given, size_t size, size_t padding) {
+    const unsigned char *end = (const unsigned char *)&answered + size;
+    for (size_t k = 0; k < BEHIND; k++)
+        if (end[k] != 0xa5) return false;
+    for (size_t k = 1; k <= 4; k++)
+        if (*(end - padding - k) == 0xa5) return false;
+    return given == &answered;
+}
+
+/* A function with its hidden argument shown. It goes through a variable, so that no compiler knows which it is. */
+typedef void function(void);
+
+static function *unknown(function *f) {
+    function *volatile g = f;
+    return g;
+}
+
+#define OPENLY(name, ...) ((void *(*)(void *, __VA_ARGS__))unknown((function *)(name)))
+
+static void layout_of_the_sizes(void) {
+    CHECK(sizeof(hall_state) == 4056 && sizeof(hall_answer) == 4080);
+    float ring[5] = {0};
+    const hall_cursors c = {1, 2};
+    const hall_filter f = {0};
+    void *given = OPENLY(hall_reset, hall_state, float *, size_t)(room(), numbered(8), ring, 5);
+    CHECK(ends_at(given, sizeof(hall_answer), 4) && answered.whole.number == 3);
+    given = OPENLY(hall_ring_reset, float *, size_t, hall_cursors)(room(), ring, 5, c);
+    CHECK(ends_at(given, sizeof(hall_ring_answer), 0) && answered.whole.number == 0);
+    given = OPENLY(hall_ring_get4, const float *, size_t, hall_cursors)(room(), ring, 5, c);
+    CHECK(ends_at(given, sizeof(hall_four_answer), 0) && answered.whole.number == 0);
+    given = OPENLY(hall_filter_run, hall_filter, float *, size_t)(room(), f, ring, 5);
+    CHECK(ends_at(given, sizeof(hall_filter), 0));
+    hall_value v = hall_prime_power(3, 0);
+    CHECK(sizeof v == 8 && v.number == 0 && v.value == 4);
+}
+
 static void layout(void) {
     layout_goes_round();
     layout_of_the_range();
@@ -441,6 +495,7 @@ static void layout(void) {
     layout_of_a_filter();
     layout_of_an_open_frame();
     layout_of_the_cursors();
+    layout_of_the_sizes();
 }
 
 /* ---- Refusals ---- */
