@@ -21,9 +21,9 @@ use Rattle.frame.proofs.RowLaws.{copied-all}
 use Rattle.frame.proofs.FrameLaws.{put-beside}
 use Rattle.rows.specs.Fits.{outputFits}
 use Rattle.rows.specs.Steps.{linesEnds, linesLaid, outputFrom, outputMade, outputAfter}
-use Rattle.rows.proofs.Stretches.{lent-long}
+use Rattle.rows.proofs.Stretches.{to-end, lent-long}
 use Rattle.rows.proofs.RowFits.{lines-yes, output-yes}
-use Rattle.rows.proofs.RowJoins.{first-part, last-part, last-of, filters-long}
+use Rattle.rows.proofs.RowJoins.{first-part, last-part, filters-long}
 use Rattle.lines.specs.Work.{FrameFits, frameBy, framed}
 
 -- ---- step 5 where the lines' filters are those after step 4: it looks at the others alone
@@ -113,9 +113,9 @@ pub copy-join : (t b : ℕ) (store work x : List Float) → t ≤ length store �
     → putMid b (length work - b) work x ≡ take b work ++ drop t store
 copy-join t b store work x h l ex =
     let a : length store - (length work - b) ≡ t = omega arith in
-    let dst = last-of b work (omega arith) in
+    let dst = to-end b work (omega arith) in
     let same : length (drop t store) ≡ length (drop b work) = rw (length-drop, length-drop) (omega arith) in
-    dst .1 x ∙ rw (ex, a, last-of t store h .0, dst .0, copied-all (drop t store) (drop b work) same) refl
+    dst .1 x ∙ rw (ex, a, to-end t store h .0, dst .0, copied-all (drop t store) (drop b work) same) refl
 
 pub frame-join : (n f : ℕ) (k d : Float) (tail : Bool) (ls : List ℕ) (cs : List Cursors) (ps : List ℕ) (qs : List Cursors) (fs gs hs : List Filter)
     (store work x x₁ x₂ : List Float) → FrameFits n f ls cs ps (length store) (length work)

@@ -29,6 +29,7 @@ use Rattle.frame.specs.Stages.{staged}
 use Rattle.frame.specs.Steps.{divided}
 use Rattle.frame.proofs.RowLaws.{byBands, length-bandEnds}
 use Rattle.frame.proofs.Stages.{length-passOut, pass-rings, staged-laid}
+use Rattle.rows.proofs.Stretches.{to-end}
 
 -- what is lent of w, where it is p, of length a, and then q, and what comes back: of all before a, and of all from a on
 module _ (a : ℕ) (p q w : List Float) (e : w ≡ p ++ q) (l : length p ≡ a) where
@@ -43,8 +44,6 @@ module _ (a : ℕ) (w : List Float) (h : a ≤ length w) where
   pub first-of : (take (a - 0) (drop 0 w) ≡ take a w) × ((x : List Float) → putMid 0 (a - 0) w x ≡ x ++ drop a w)
   first-of = first-part a (take a w) (drop a w) w (sym (take-append-drop a w)) (length-take-le a w h)
 
-  pub last-of : (take (length w - a) (drop a w) ≡ drop a w) × ((x : List Float) → putMid a (length w - a) w x ≡ take a w ++ x)
-  last-of = last-part a (take a w) (drop a w) w (sym (take-append-drop a w)) (length-take-le a w h)
 
 -- ---- the sum of the rows read, after all rows, divided
 
@@ -73,7 +72,7 @@ mix-part n f k w x a h l e =
     let all = drop f w in
     let reads = take m all in
     let old = drop m all in
-    let q = last-of f w (omega arith) in
+    let q = to-end f w (omega arith) in
     let la : length all ≡ m + m = rw length-drop (omega arith) in
     let lr : length reads ≡ m = length-take-le m all (omega arith) in
     let lo : length old ≡ m = rw length-drop (omega arith) in
@@ -103,7 +102,7 @@ lines-join n f k tail fs gs w x x₂ w₃ a h l e₁ e₂ e₃ =
     let li : length input ≡ f = length-take-le f w (omega arith) in
     let lr : length reads ≡ n * f = length-take-le (n * f) (drop f w) (rw length-drop (omega arith)) in
     let lp : length (input ++ reads) ≡ at = rw length-append (omega arith) in
-    let begun = last-of f w (omega arith) .1 x in
+    let begun = to-end f w (omega arith) .1 x in
     let q = last-part at (input ++ reads) mixed _ (begun ∙ rw ex (sym (append-assoc input reads mixed))) lp in
     let first : take f ((input ++ reads) ++ bands) ≡ input = rw append-assoc (take-at input (reads ++ bands) f li) in
     let added = addRows f n input bands in (
