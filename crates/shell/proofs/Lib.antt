@@ -2,3 +2,4 @@ pub mod Filled
 pub mod Given
 pub mod Silence
 pub mod SeventySix
+pub mod Eight
