@@ -27,7 +27,7 @@ coefficients-finite = refl
 
 pub eight : Eight
 unfolding judgedGiven coefficients lineGains
-eight u bytes store work h = ap (λ a. orElse a (judgedGiven times coefficients (heard bytes))) h ∙ rw (times-fit, coefficients-finite)
+eight u bytes h = ap (λ a. orElse a (judgedGiven times coefficients (heard bytes))) h ∙ rw (times-fit, coefficients-finite)
 
 -- an exponent's field of ones alone is no number's
 odd-finite : (d : ℕ) (s : Bool) (q k l : ℕ) → finite (odd d s q k l) ≡ true

@@ -10,20 +10,19 @@ use Rattle.unit.specs.Hall.{Hall, ofState}
 use Rattle.unit.specs.Model.{wall}
 use Rattle.unit.specs.Fresh.{freshHall}
 use Rattle.unit.specs.Sizes.{storeLen, workLen}
-use Rattle.shell.specs.Settings.{frame, rate}
+use Rattle.shell.specs.Settings.{frame, rate, storeFloats, workFloats}
 use Rattle.shell.specs.Frames.{inputOutcome, calls}
 
--- a frame of input: its bytes, the store that is lent, and how many floats of work memory
+-- a frame of input: its bytes, and the store that is lent
 pub record Input : Type 0 where
   pub bytes : List ℕ
   pub store : List Float
-  pub work : ℕ
 
 abbrev pub answered : Hall → Input → Answer
-answered u x = inputOutcome u (x .bytes) (x .store) (x .work) .answer
+answered u x = inputOutcome u (x .bytes) (x .store) .answer
 
 abbrev pub next : Hall → Input → Hall
-next u x = ofState (inputOutcome u (x .bytes) (x .store) (x .work) .state)
+next u x = ofState (inputOutcome u (x .bytes) (x .store) .state)
 
 -- the unit after frames of input, and whether any of them was accepted
 unfoldable pub last : Hall → List Input → Hall
@@ -38,6 +37,6 @@ any u (x ∷ xs) = accepted (answered u x) || any (next u x) xs
 abbrev pub SeventySix : Type 0
 SeventySix = (xs : List Input) → let u = freshHall wall rate frame in calls (last u xs .count) ≡ cond (any u xs) 76 0
 
--- "Store: exactly 7,600 + 16F floats. Work: exactly 34F + 1,348."
+-- the memory is what a unit of the program's frame takes
 abbrev pub Room : Type 0
-Room = (storeLen wall frame ≡ 9648) × (workLen wall frame ≡ 5700)
+Room = (storeLen wall frame ≡ storeFloats) × (workLen wall frame ≡ workFloats)

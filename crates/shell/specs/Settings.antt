@@ -12,6 +12,13 @@ frame = 128
 abbrev pub rate : ℕ
 rate = 48000
 
+-- "Store: exactly 7,600 + 16F floats. Work: exactly 34F + 1,348."
+abbrev pub storeFloats : ℕ
+storeFloats = 9648
+
+abbrev pub workFloats : ℕ
+workFloats = 5700
+
 -- "times 0.1". 0x3dcc_cccd is the float nearest to 0.1
 abbrev pub times : Times
 times = record { low = ofBits binary32 0x3dcc_cccd; mid = ofBits binary32 0x3dcc_cccd; high = ofBits binary32 0x3dcc_cccd }

@@ -13,19 +13,21 @@ ghost use mathlib.Core.Bool.{cond, _&&_};
 ghost use Prim.Native.Nat.{_%_};
 ghost use lib.Dec.{ltb, eqb};
 ghost use lib.Ieee.{binary32, ofBits};
-ghost use lib.ListN.{length};
+ghost use lib.ListN.{replicate};
+ghost use Rattle.samples.specs.Binary32.{+0};
+ghost use Rattle.samples.specs.declared.Answer.the-variants.{Accepted};
 ghost use Rattle.unit.specs.Hall.{ofState};
 ghost use Rattle.unit.specs.Model.{wall};
-ghost use Rattle.unit.specs.Judges.{judgedFresh};
-ghost use Rattle.reverb.specs.Whole.{outcome, freshUnit, freshStore};
+ghost use Rattle.unit.specs.Fresh.{freshHall};
+ghost use Rattle.reverb.specs.Whole.{outcome};
 ghost use Rattle.audio_buffer.specs.declared.AudioEffectState.the-variants.{TailComplete};
-ghost use Rattle.shell.specs.Settings.{frame, rate, times, coefficients};
+ghost use Rattle.shell.specs.Settings.{frame, rate, storeFloats, times, coefficients};
 ghost use Rattle.shell.specs.Frames.{inputOutcome, inputStore, inputWork, inputSaid, tailOutcome, tailStore, tailWork, tailSaid, calls};
 
-// How many floats of store the program's unit is lent. `room` says that it takes so many.
+// How many floats of store the program's unit is lent.
 pub const STORE: usize = 9648;
 
-// How many floats of work memory, likewise.
+// And how many of work memory.
 pub const WORK: usize = 5700;
 
 // The three reverb times.
@@ -58,9 +60,9 @@ pub fn coefficients() -> [f32; 255]
 }
 
 // The program's unit, in which nothing has sounded yet.
-pub fn start(store: &mut [f32]) -> Outcome
-    ensures { λ r. ⌜ r ≡ outcome (judgedFresh wall rate frame (length (now (store .entry)))) (freshUnit wall rate frame (length (now (store .entry)))) TailComplete ⌝ }
-    ensures { λ _. ⌜ now (store .exit) ≡ freshStore wall rate frame (now (store .entry)) ⌝ }
+pub fn start(store: &mut [f32; STORE]) -> Outcome
+    ensures { λ r. ⌜ r ≡ outcome Accepted (freshHall wall rate frame) TailComplete ⌝ }
+    ensures { λ _. ⌜ now (store .exit) ≡ replicate storeFloats +0 ⌝ }
 {
     reverb::fresh(48000, 128, store)
 }
@@ -69,14 +71,14 @@ pub fn start(store: &mut [f32]) -> Outcome
 pub fn input_frame(
     s: State,
     bytes: &[u8],
-    store: &mut [f32],
-    work: &mut [f32],
+    store: &mut [f32; STORE],
+    work: &mut [f32; WORK],
     out: &mut [u8; 512],
 ) -> Outcome
-    ensures { λ r. ⌜ r ≡ inputOutcome (ofState s) (now (bytes .entry)) (now (store .entry)) (length (now (work .entry))) ⌝ }
-    ensures { λ _. ⌜ now (store .exit) ≡ inputStore (ofState s) (now (bytes .entry)) (now (store .entry)) (length (now (work .entry))) ⌝ }
-    ensures { λ _. ⌜ now (work .exit) ≡ inputWork (ofState s) (now (bytes .entry)) (length (now (store .entry))) (now (work .entry)) ⌝ }
-    ensures { λ _. ⌜ now (out .exit) ≡ inputSaid (ofState s) (now (bytes .entry)) (now (store .entry)) (length (now (work .entry))) ⌝ }
+    ensures { λ r. ⌜ r ≡ inputOutcome (ofState s) (now (bytes .entry)) (now (store .entry)) ⌝ }
+    ensures { λ _. ⌜ now (store .exit) ≡ inputStore (ofState s) (now (bytes .entry)) (now (store .entry)) ⌝ }
+    ensures { λ _. ⌜ now (work .exit) ≡ inputWork (ofState s) (now (bytes .entry)) (now (work .entry)) ⌝ }
+    ensures { λ _. ⌜ now (out .exit) ≡ inputSaid (ofState s) (now (bytes .entry)) (now (store .entry)) ⌝ }
 {
     let mut input = [0.0f32; 128];
     wire::decode(bytes, &mut input);
@@ -95,11 +97,16 @@ pub fn input_frame(
 }
 
 // A frame of the tail, likewise.
-pub fn tail_frame(s: State, store: &mut [f32], work: &mut [f32], out: &mut [u8; 512]) -> Outcome
-    ensures { λ r. ⌜ r ≡ tailOutcome (ofState s) (now (store .entry)) (length (now (work .entry))) ⌝ }
-    ensures { λ _. ⌜ now (store .exit) ≡ tailStore (ofState s) (now (store .entry)) (length (now (work .entry))) ⌝ }
-    ensures { λ _. ⌜ now (work .exit) ≡ tailWork (ofState s) (length (now (store .entry))) (now (work .entry)) ⌝ }
-    ensures { λ _. ⌜ now (out .exit) ≡ tailSaid (ofState s) (now (store .entry)) (length (now (work .entry))) ⌝ }
+pub fn tail_frame(
+    s: State,
+    store: &mut [f32; STORE],
+    work: &mut [f32; WORK],
+    out: &mut [u8; 512],
+) -> Outcome
+    ensures { λ r. ⌜ r ≡ tailOutcome (ofState s) (now (store .entry)) ⌝ }
+    ensures { λ _. ⌜ now (store .exit) ≡ tailStore (ofState s) (now (store .entry)) ⌝ }
+    ensures { λ _. ⌜ now (work .exit) ≡ tailWork (ofState s) (now (work .entry)) ⌝ }
+    ensures { λ _. ⌜ now (out .exit) ≡ tailSaid (ofState s) (now (store .entry)) ⌝ }
 {
     let mut row = [0.0f32; 128];
     let a = reverb::tail(s, store, work, &mut row);

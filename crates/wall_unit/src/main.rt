@@ -5,6 +5,8 @@
 // bytes are read or written.
 use libc::STDIN_FILENO;
 use libc::STDOUT_FILENO;
+use shell::STORE;
+use shell::WORK;
 use unit::State;
 ghost use Prim.Native.Nat.{_≤_};
 ghost use lib.ListN.{length};
@@ -53,7 +55,7 @@ fn put(out: &[u8; 512]) -> bool {
 }
 
 // A frame of input. The last may be short, and fewer bytes than a sample's are none.
-fn turn(s: State, store: &mut [f32], work: &mut [f32]) -> Went {
+fn turn(s: State, store: &mut [f32; STORE], work: &mut [f32; WORK]) -> Went {
     let mut bytes = [0u8; 512];
     let n = get(&mut bytes);
     if n < 4 {
@@ -76,7 +78,7 @@ fn turn(s: State, store: &mut [f32], work: &mut [f32]) -> Went {
 
 // All frames of input. Nothing says that the input ends, so the turns are counted down from a number
 // that no run uses up.
-fn frames(s: State, store: &mut [f32], work: &mut [f32]) -> Went {
+fn frames(s: State, store: &mut [f32; STORE], work: &mut [f32; WORK]) -> Went {
     let mut state = s;
     let mut written = true;
     let mut turns = u64::MAX;
@@ -97,7 +99,7 @@ fn frames(s: State, store: &mut [f32], work: &mut [f32]) -> Went {
 }
 
 // A frame of the tail.
-fn tail_turn(s: State, store: &mut [f32], work: &mut [f32]) -> Went {
+fn tail_turn(s: State, store: &mut [f32; STORE], work: &mut [f32; WORK]) -> Went {
     let mut out = [0u8; 512];
     let a = shell::tail_frame(s, store, work, &mut out);
     let state = a.state;
@@ -110,7 +112,7 @@ fn tail_turn(s: State, store: &mut [f32], work: &mut [f32]) -> Went {
 }
 
 // So many frames of the tail, or fewer where one can't be written.
-fn tails(s: State, calls: u32, store: &mut [f32], work: &mut [f32]) {
+fn tails(s: State, calls: u32, store: &mut [f32; STORE], work: &mut [f32; WORK]) {
     let mut state = s;
     let mut left = calls;
     while left > 0 {
@@ -124,7 +126,7 @@ fn tails(s: State, calls: u32, store: &mut [f32], work: &mut [f32]) {
 }
 
 // The whole program, on the memory lent.
-fn play(store: &mut [f32], work: &mut [f32]) {
+fn play(store: &mut [f32; STORE], work: &mut [f32; WORK]) {
     let fresh = shell::start(store);
     let w = frames(fresh.state, store, work);
     let state = w.state;
@@ -135,7 +137,7 @@ fn play(store: &mut [f32], work: &mut [f32]) {
 }
 
 fn main() {
-    let mut store = [0.0f32; shell::STORE];
-    let mut work = [0.0f32; shell::WORK];
+    let mut store = [0.0f32; STORE];
+    let mut work = [0.0f32; WORK];
     play(&mut store, &mut work);
 }

@@ -1,12 +1,15 @@
 -- `shell::input_frame` meets its contract: what its calls ensure, one after the other. Assumes nothing.
 use borrow.Author.Needs.{needs}
 use native.Mathlib.Omega.{arith}
+use mathlib.Core.Path.{_≡_, ap}
 use lib.ListN.{length, replicate}
 use denote.Ref.{now}
 use Rattle.samples.specs.Binary32.{+0}
 use Rattle.unit.specs.Hall.{ofState}
+use Rattle.reverb.specs.Whole.{applyCount}
+use Rattle.shell.specs.Settings.{storeFloats, workFloats}
 use Rattle.shell.specs.Frames.{inputDue, inputFrame}
-use Rattle.shell.proofs.Given.{given-outcome, given-store, given-work, given-output}
+use Rattle.shell.proofs.Given.{given-due, given-frame, same-outcome, same-store, same-work, same-output}
 use Rattle.shell.proofs.Silence.{as-said}
 use Rattle.shell.proofs.input_frame.Statement.{statement}
 use Rattle.shell.proofs.input_frame.Tie as tie
@@ -41,19 +44,13 @@ slice-aggregate-encode c = search needs
 encode-requires : tie.Need-encode-requires
 encode-requires c κs = search needs
 
-same-length : tie.Need-same-length
-same-length c = search needs
-
-same-length-2 : tie.Need-same-length-2
-same-length-2 c = search needs
-
 returns : tie.Need-returns
 returns c =
-    let ran = c .before .before .before .before .before .before .before .before in
+    let ran = c .before .before .before .before in
     let set-up = ran .before .before .before .before .before .before in
     let timed = set-up .before in
     let read = timed .before .before in
-    let a = read .before .before .before .before .before .args in
+    let a = read .before .before .before .args in
     let u = ofState (a .s) in
     let bytes = now (a .bytes) in
     let store = now (a .store) in
@@ -61,14 +58,18 @@ returns c =
     let t = timed .times .ensures in
     let k = set-up .coefficients .ensures in
     let x = read .decode .ensures in
+    let m : length store ≡ storeFloats = omega (arith, ran .before .before .before .apply-arg2 .given) in
+    let n : length work ≡ workFloats = omega (arith, ran .before .before .apply-arg3 .given) in
+    let due = given-due u bytes t k x m n in
+    let r = given-frame u bytes store k x in
     let e = ran .apply .ensures in
-    let row = given-output u bytes store work _ _ _ t k x _ (replicate 128 +0) (e .1 .1 .1) in (
-      given-outcome u bytes store work _ _ _ t k x _ (e .0),
+    let row = same-output u due r (replicate 128 +0) _ (e .1 .1 .1) in (
+      same-outcome u due r _ (ap (applyCount u) t) (e .0),
       (
-        given-store u bytes store work _ _ _ t k x _ (e .1 .0),
+        same-store u due r store _ (e .1 .0),
         (
-          given-work u bytes store work _ _ _ t k x _ (e .1 .1 .0),
-          as-said (inputDue u bytes (length store) (length work)) (inputFrame u bytes store) _ (now (a .out)) _ (omega arith) (omega arith) row (c .encode .ensures),
+          same-work work _ due (e .1 .1 .0),
+          as-said (inputDue u bytes) (inputFrame u bytes store) _ (now (a .out)) _ (omega arith) (omega arith) row (c .encode .ensures),
         ),
       ),
     )
@@ -87,6 +88,4 @@ input-frame-spec =
     apply-requires
     slice-aggregate-encode
     encode-requires
-    same-length
-    same-length-2
     returns)

@@ -1,12 +1,10 @@
 -- `wall_unit::tails` is safe and ends: the frames left fall. Assumes nothing.
 use borrow.Author.Needs.{needs}
-use mathlib.Core.Path.{_≡_}
-use lib.ListN.{length}
 use Rattle.wall_unit.proofs.tails.Statement.{statement}
 use Rattle.wall_unit.proofs.tails.Tie as tie
 
 abbrev Inv-loop : tie.InvT-loop
-Inv-loop calls store₀ work₀ state₀ left₀ store work state left = (length store ≡ length store₀) × (length work ≡ length work₀)
+Inv-loop calls store₀ work₀ state₀ left₀ store work state left = Unit {0}
 
 abbrev μ-loop : tie.MeasureT-loop
 μ-loop calls store₀ work₀ state₀ left₀ store work state left = left
@@ -26,20 +24,8 @@ loop-less c = search needs
 loop-again : tie.Need-loop-again Inv-loop μ-loop
 loop-again c = search needs
 
-same-length : tie.Need-same-length Inv-loop μ-loop
-same-length c = search needs
-
-same-length-2 : tie.Need-same-length-2 Inv-loop μ-loop
-same-length-2 c = search needs
-
 returns : tie.Need-returns Inv-loop μ-loop
 returns c = search needs
-
-same-length-3 : tie.Need-same-length-3 Inv-loop μ-loop
-same-length-3 c = search needs
-
-same-length-4 : tie.Need-same-length-4 Inv-loop μ-loop
-same-length-4 c = search needs
 
 returns-2 : tie.Need-returns-2 Inv-loop μ-loop
 returns-2 c = search needs
@@ -55,9 +41,5 @@ tails-spec =
     sub-left
     loop-less
     loop-again
-    same-length
-    same-length-2
     returns
-    same-length-3
-    same-length-4
     returns-2)
