@@ -1,21 +1,26 @@
 -- A frame of input is refused by its first sample that is not finite, and which patterns those are. Assumes nothing.
 use mathlib.Core.Path.{_≡_, refl, ap, _∙_}
-use mathlib.Core.Bool.{Bool, true, false, not, cond}
+use mathlib.Core.Bool.{Bool, true, false, not, _&&_, cond}
+use mathlib.Core.List.{List}
 use mathlib.Core.Logic.{⊎-elim}
 use Prim.Native.Nat.{ℕ, zero, suc, _+_, _/_, _%_, _<_, _≤_}
 use native.Mathlib.Omega.{arith}
 use lib.Dec.{ltb, leb, eqb}
 use lib.Ieee.{Float, nan, inf, binary32, prec, low, hid, odd, ofFields, ofBits, le}
 use borrow.Author.Tests.{lt-ltb, le-ltb, eq-eqb, ne-eqb}
+use Rattle.samples.specs.declared.Answer.{Answer}
+use Rattle.samples.specs.declared.Answer.the-variants.{Accepted}
 use Rattle.samples.specs.Answers.{orElse}
 use Rattle.samples.specs.Binary32.{finite}
-use Rattle.samples.specs.Search.{allFinite}
+use Rattle.samples.specs.Search.{firstBad, allFinite}
 use Rattle.samples.proofs.Turns.{lt-or-ge}
 use Rattle.bands.specs.Times.{timeOk, timesOk}
-use Rattle.unit.specs.Judges.{judgedGiven}
-use Rattle.shell.specs.Settings.{times, lineGains, coefficients}
-use Rattle.shell.specs.Frames.{heard}
-use Rattle.shell.specs.Refused.{Eight, Patterns}
+use Rattle.unit.specs.Hall.{Hall}
+use Rattle.unit.specs.Model.{wall}
+use Rattle.unit.specs.Judges.{judged, givenOk, lentOk, badInput, judgedGiven}
+use Rattle.shell.specs.Settings.{frame, storeFloats, workFloats, times, lineGains, coefficients}
+use Rattle.shell.specs.Frames.{heard, inputDue}
+use Rattle.shell.specs.Refused.{Patterns}
 
 times-fit : timesOk times ≡ true
 unfolding timeOk le ofBits
@@ -25,7 +30,11 @@ coefficients-finite : allFinite coefficients ≡ true
 unfolding coefficients lineGains finite ofBits
 coefficients-finite = refl
 
-pub eight : Eight
+-- what is due of an apply before its times, coefficients and input are looked at: 1 3 5
+abbrev pub readyDue : Hall → Answer
+readyDue u = judged wall u (givenOk wall u 255 frame && lentOk wall u storeFloats workFloats frame) true (not (u .busy))
+
+pub eight : (u : Hall) (bytes : List ℕ) → readyDue u ≡ Accepted → inputDue u bytes ≡ badInput (firstBad (heard bytes))
 unfolding judgedGiven coefficients lineGains
 eight u bytes h = ap (λ a. orElse a (judgedGiven times coefficients (heard bytes))) h ∙ rw (times-fit, coefficients-finite)
 

@@ -3,3 +3,4 @@ pub mod Given
 pub mod Silence
 pub mod SeventySix
 pub mod Eight
+pub mod Steady
