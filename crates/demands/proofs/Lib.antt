@@ -1,4 +1,5 @@
 pub mod Determined
+pub mod DeterminedProgram
 pub mod Refusals
 pub mod Examples
 pub mod Lent

@@ -1,0 +1,6 @@
+pub mod Filled
+pub mod Given
+pub mod Silence
+pub mod SeventySix
+pub mod Eight
+pub mod Steady

@@ -1,0 +1,29 @@
+-- `shell::start` meets its contract: on a store of its length a fresh unit is accepted. Assumes nothing.
+use borrow.Author.Needs.{needs}
+use native.Mathlib.Omega.{arith}
+use mathlib.Core.Path.{_≡_, refl}
+use lib.ListN.{length}
+use denote.Ref.{now}
+use Rattle.samples.specs.declared.Answer.the-variants.{Accepted}
+use Rattle.samples.specs.Sizes.{rateOk, frameOk}
+use Rattle.unit.specs.Model.{wall}
+use Rattle.unit.specs.Sizes.{lengthsFrom, total, storeLen}
+use Rattle.unit.specs.Judges.{judgedFresh}
+use Rattle.shell.specs.Settings.{frame, rate, storeFloats}
+use Rattle.shell.proofs.start.Statement.{statement}
+use Rattle.shell.proofs.start.Tie as tie
+
+fresh-accepted : judgedFresh wall rate frame storeFloats ≡ Accepted
+unfolding judgedFresh rateOk frameOk storeLen total lengthsFrom
+fresh-accepted = refl
+
+fresh-requires : tie.Need-fresh-requires
+fresh-requires c κs = search needs
+
+returns : tie.Need-returns
+returns c =
+    let m : length (now (c .before .before .args .store)) ≡ storeFloats = omega arith in
+    rw (m, fresh-accepted) at (c .fresh .ensures)
+
+pub start-spec : {M : Type 1} → statement M
+start-spec = tie.close (tie.spec fresh-requires returns)

@@ -1,0 +1,54 @@
+-- `shell::tail_frame` meets its contract: what its calls ensure, one after the other. Assumes nothing.
+use borrow.Author.Needs.{needs}
+use native.Mathlib.Omega.{arith}
+use mathlib.Core.Path.{_≡_, refl}
+use lib.ListN.{length, replicate}
+use denote.Ref.{now}
+use Rattle.samples.specs.Binary32.{+0}
+use Rattle.unit.specs.Hall.{ofState}
+use Rattle.unit.specs.Model.{wall}
+use Rattle.reverb.specs.Whole.{tailFrame}
+use Rattle.shell.specs.Settings.{storeFloats, workFloats}
+use Rattle.shell.specs.Frames.{tailDue}
+use Rattle.shell.proofs.Given.{lent-due, same-outcome, same-store, same-work, same-output}
+use Rattle.shell.proofs.Silence.{as-said}
+use Rattle.shell.proofs.tail_frame.Statement.{statement}
+use Rattle.shell.proofs.tail_frame.Tie as tie
+
+slice-aggregate-tail : tie.Need-slice-aggregate-tail
+slice-aggregate-tail c = search needs
+
+tail-requires : tie.Need-tail-requires
+tail-requires c κs = search needs
+
+slice-aggregate-encode : tie.Need-slice-aggregate-encode
+slice-aggregate-encode c = search needs
+
+encode-requires : tie.Need-encode-requires
+encode-requires c κs = search needs
+
+returns : tie.Need-returns
+returns c =
+    let ran = c .before .before .before .before in
+    let a = ran .before .before .before .before .args in
+    let u = ofState (a .s) in
+    let store = now (a .store) in
+    let work = now (a .work) in
+    let r = tailFrame wall u store in
+    let m : length store ≡ storeFloats = omega arith in
+    let n : length work ≡ workFloats = omega arith in
+    let due = lent-due u m n in
+    let e = ran .tail .ensures in
+    let row = same-output u due refl (replicate 128 +0) _ (e .1 .1 .1) in (
+      same-outcome u due refl _ refl (e .0),
+      (
+        same-store u due refl store _ (e .1 .0),
+        (
+          same-work work _ due (e .1 .1 .0),
+          as-said (tailDue u) r _ (now (a .out)) _ (omega arith) (omega arith) row (c .encode .ensures),
+        ),
+      ),
+    )
+
+pub tail-frame-spec : {M : Type 1} → statement M
+tail-frame-spec = tie.close (tie.spec slice-aggregate-tail tail-requires slice-aggregate-encode encode-requires returns)

@@ -1,0 +1,42 @@
+-- How many tail calls the program makes, and how much memory its unit takes.
+use mathlib.Core.Path.{_≡_}
+use mathlib.Core.Bool.{Bool, false, cond, _||_}
+use mathlib.Core.List.{List, [], _∷_}
+use Prim.Native.Nat.{ℕ}
+use lib.Ieee.{Float}
+use Rattle.samples.specs.declared.Answer.{Answer}
+use Rattle.samples.specs.Answers.{accepted}
+use Rattle.unit.specs.Hall.{Hall, ofState}
+use Rattle.unit.specs.Model.{wall}
+use Rattle.unit.specs.Fresh.{freshHall}
+use Rattle.unit.specs.Sizes.{storeLen, workLen}
+use Rattle.shell.specs.Settings.{frame, rate, storeFloats, workFloats}
+use Rattle.shell.specs.Frames.{inputOutcome, calls}
+
+-- a frame of input: its bytes, and the store that is lent
+pub record Input : Type 0 where
+  pub bytes : List ℕ
+  pub store : List Float
+
+abbrev pub answered : Hall → Input → Answer
+answered u x = inputOutcome u (x .bytes) (x .store) .answer
+
+abbrev pub next : Hall → Input → Hall
+next u x = ofState (inputOutcome u (x .bytes) (x .store) .state)
+
+-- the unit after frames of input, and whether any of them was accepted
+unfoldable pub last : Hall → List Input → Hall
+last u [] = u
+last u (x ∷ xs) = last (next u x) xs
+
+unfoldable pub any : Hall → List Input → Bool
+any u [] = false
+any u (x ∷ xs) = accepted (answered u x) || any (next u x) xs
+
+-- "as many tail calls as the last count read (76 if any frame was accepted, else none)"
+abbrev pub SeventySix : Type 0
+SeventySix = (xs : List Input) → let u = freshHall wall rate frame in calls (last u xs .count) ≡ cond (any u xs) 76 0
+
+-- the memory is what a unit of the program's frame takes
+abbrev pub Room : Type 0
+Room = (storeLen wall frame ≡ storeFloats) × (workLen wall frame ≡ workFloats)

@@ -1,0 +1,66 @@
+-- One frame of document 01's program: from the bytes read to the bytes written.
+use mathlib.Core.List.{List}
+use Prim.Native.Nat.{ℕ}
+use lib.IntN.{ℤ, pos, negsuc}
+use lib.Ieee.{Float}
+use lib.ListN.{replicate}
+use Rattle.samples.specs.declared.Answer.{Answer}
+use Rattle.samples.specs.Answers.{accept}
+use Rattle.wire.specs.Wire.{decoded, encoded}
+use Rattle.unit.specs.Hall.{Hall}
+use Rattle.unit.specs.Model.{wall}
+use Rattle.unit.specs.Judges.{judgedApply, judgedTail}
+use Rattle.frame.specs.Frame.{Frame}
+use Rattle.frame.specs.Settle.{fallen}
+use Rattle.reverb.specs.declared.Outcome.{Outcome}
+use Rattle.reverb.specs.Whole.{applyFrame, applyCount, tailFrame, wholeAnswer, wholeOutcome, wholeStore, wholeWork}
+use Rattle.shell.specs.Settings.{frame, storeFloats, workFloats, times, coefficients}
+
+-- "It reads little-endian binary32 .., pads the last frame with +0, ignores 1 to 3 odd bytes": the samples of a frame's bytes
+abbrev pub heard : List ℕ → List Float
+heard bytes = decoded frame bytes
+
+-- "writes each frame"; "A refused frame is written as 128 zeros": 512 bytes, each 0
+unfoldable pub said : Answer → Frame → List ℕ
+said due r = accept (wholeAnswer due r) (encoded (r .output .out)) (replicate 512 0)
+
+-- a frame of input, for a unit u that is lent the program's memory: what is due of it, and the frame
+abbrev pub inputDue : Hall → List ℕ → Answer
+inputDue u bytes = judgedApply wall u times coefficients (heard bytes) storeFloats workFloats frame
+
+abbrev pub inputFrame : Hall → List ℕ → List Float → Frame
+inputFrame u bytes store = applyFrame wall u coefficients (heard bytes) store
+
+-- what it gives, and what it leaves
+abbrev pub inputOutcome : Hall → List ℕ → List Float → Outcome
+inputOutcome u bytes store = wholeOutcome wall u (inputDue u bytes) (inputFrame u bytes store) (applyCount u times)
+
+abbrev pub inputStore : Hall → List ℕ → List Float → List Float
+inputStore u bytes store = wholeStore wall u (inputDue u bytes) (inputFrame u bytes store) store
+
+abbrev pub inputWork : Hall → List ℕ → List Float → List Float
+inputWork u bytes work = wholeWork (inputDue u bytes) work
+
+abbrev pub inputSaid : Hall → List ℕ → List Float → List ℕ
+inputSaid u bytes store = said (inputDue u bytes) (inputFrame u bytes store)
+
+-- a frame of the tail, likewise
+abbrev pub tailDue : Hall → Answer
+tailDue u = judgedTail wall u storeFloats workFloats frame
+
+abbrev pub tailOutcome : Hall → List Float → Outcome
+tailOutcome u store = wholeOutcome wall u (tailDue u) (tailFrame wall u store) (fallen (u .count))
+
+abbrev pub tailStore : Hall → List Float → List Float
+tailStore u store = wholeStore wall u (tailDue u) (tailFrame wall u store) store
+
+abbrev pub tailWork : Hall → List Float → List Float
+tailWork u work = wholeWork (tailDue u) work
+
+abbrev pub tailSaid : Hall → List Float → List ℕ
+tailSaid u store = said (tailDue u) (tailFrame wall u store)
+
+-- "then makes as many tail calls as the last count read": none where the count is below 0
+abbrev pub calls : ℤ → ℕ
+calls (pos n) = n
+calls (negsuc n) = 0
