@@ -44,7 +44,6 @@ module _ (a : ℕ) (w : List Float) (h : a ≤ length w) where
   pub first-of : (take (a - 0) (drop 0 w) ≡ take a w) × ((x : List Float) → putMid 0 (a - 0) w x ≡ x ++ drop a w)
   first-of = first-part a (take a w) (drop a w) w (sym (take-append-drop a w)) (length-take-le a w h)
 
-
 -- ---- the sum of the rows read, after all rows, divided
 
 pub mean-join : (n f : ℕ) (d : Float) (rows w x : List Float) → length rows ≡ n * f + n * f + f
