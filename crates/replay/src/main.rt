@@ -1,0 +1,45 @@
+// Plays a recorded sample of the published Rust's answers again and compares every bit. It stops at the
+// first difference and says where. README.md has the layout of the records.
+mod parts;
+mod units;
+
+use libc::STDOUT_FILENO;
+use tape::Tape;
+
+fn say_end(t: Tape) {
+    if t.good {
+        io::write_all(STDOUT_FILENO, b"replay: ");
+        io::print_decimal(STDOUT_FILENO, t.records);
+        io::write_all(STDOUT_FILENO, b" records, ");
+        io::print_decimal(STDOUT_FILENO, t.numbers);
+        io::write_all(STDOUT_FILENO, b" numbers, all as the Rust's\n");
+    }
+}
+
+// A record, and where it begins a unit the whole of the unit's life.
+fn record(t: Tape, bytes: &mut [u8]) -> Tape {
+    if t.kind == tape::UNIT {
+        return units::unit(t, bytes);
+    }
+    parts::part(t, bytes)
+}
+
+// Every record until the input ends or one differs.
+fn replay(bytes: &mut [u8]) -> Tape {
+    let mut t = tape::begin();
+    let mut turns = u64::MAX;
+    while turns > 0 {
+        t = tape::next(t);
+        if !t.more {
+            break;
+        }
+        t = record(t, bytes);
+        turns -= 1;
+    }
+    t
+}
+
+fn main() {
+    let mut bytes = [0u8; 95936];
+    say_end(replay(&mut bytes));
+}

@@ -1,0 +1,234 @@
+// Units from fresh on: their calls, and what they keep in the end.
+use audio_buffer::AudioEffectState;
+use bands::Times;
+use reverb::Outcome;
+use samples::Frames;
+use tape::Tape;
+use tape::fill;
+use tape::fill_two;
+use tape::next;
+use tape::same;
+use tape::same_filters;
+use tape::same_rings;
+use tape::same_row;
+use unit::State;
+
+// A unit on its way, and where the replay is.
+struct Going {
+    state: State,
+    tape: Tape,
+}
+
+// A unit of the frame that its record says, on memory of that frame's lengths.
+pub fn unit(t: Tape, bytes: &mut [u8]) -> Tape {
+    if t.b == 4 {
+        return live(
+            t,
+            &mut [0.0f32; 4],
+            &mut [0.0f32; 7664],
+            &mut [0.5f32; 1484],
+            &mut [0.5f32; 4],
+            bytes,
+        );
+    }
+    if t.b == 12 {
+        return live(
+            t,
+            &mut [0.0f32; 12],
+            &mut [0.0f32; 7792],
+            &mut [0.5f32; 1756],
+            &mut [0.5f32; 12],
+            bytes,
+        );
+    }
+    if t.b == 128 {
+        return live(
+            t,
+            &mut [0.0f32; 128],
+            &mut [0.0f32; 9648],
+            &mut [0.5f32; 5700],
+            &mut [0.5f32; 128],
+            bytes,
+        );
+    }
+    live(
+        t,
+        &mut [0.0f32; 1024],
+        &mut [0.0f32; 23984],
+        &mut [0.5f32; 36164],
+        &mut [0.5f32; 1024],
+        bytes,
+    )
+}
+
+// A unit's life, from the fresh unit to the record of what it keeps.
+fn live(
+    t: Tape,
+    input: &mut [f32],
+    store: &mut [f32],
+    work: &mut [f32],
+    output: &mut [f32],
+    bytes: &mut [u8],
+) -> Tape {
+    let g = begin(t, store);
+    play(g, input, store, work, output, bytes)
+}
+
+fn begin(t: Tape, store: &mut [f32]) -> Going {
+    let a = reverb::fresh(t.a, t.b as usize, store);
+    let answer = a.answer;
+    let state = a.state;
+    let u = same(t, b"answer", 0, samples::number(answer) as u64, 0);
+    let tape = same(u, b"count", 0, pattern(state.count), t.c);
+    Going { state, tape }
+}
+
+// Its calls one after another.
+fn play(
+    g: Going,
+    input: &mut [f32],
+    store: &mut [f32],
+    work: &mut [f32],
+    output: &mut [f32],
+    bytes: &mut [u8],
+) -> Tape {
+    let mut cs = [0.0f32; 255];
+    let mut going = g;
+    let mut turns = u64::MAX;
+    while turns > 0 {
+        going = step(going, &mut cs, input, store, work, output, bytes);
+        let t = going.tape;
+        if ends(t) {
+            return t;
+        }
+        turns -= 1;
+    }
+    let end = going.tape;
+    end
+}
+
+// Whether a unit's life is over.
+fn ends(t: Tape) -> bool {
+    if t.more {
+        return t.kind == tape::KEPT;
+    }
+    true
+}
+
+// The next record.
+fn step(
+    g: Going,
+    cs: &mut [f32],
+    input: &mut [f32],
+    store: &mut [f32],
+    work: &mut [f32],
+    output: &mut [f32],
+    bytes: &mut [u8],
+) -> Going {
+    let state = g.state;
+    let t = g.tape;
+    let tape = given(next(t), cs, input, bytes);
+    done(Going { state, tape }, cs, input, store, work, output, bytes)
+}
+
+// Does what the record says.
+fn done(
+    g: Going,
+    cs: &[f32],
+    input: &[f32],
+    store: &mut [f32],
+    work: &mut [f32],
+    output: &mut [f32],
+    bytes: &mut [u8],
+) -> Going {
+    let t = g.tape;
+    if ends(t) {
+        return kept(g, store, bytes);
+    }
+    let s = g.state;
+    let a = call(t, s, cs, input, store, work, output);
+    let state = a.state;
+    let tape = answered(t, a, output, bytes);
+    Going { state, tape }
+}
+
+// Reads what a call is given: an apply its input, and where they are new its coefficients.
+fn given(t: Tape, cs: &mut [f32], input: &mut [f32], bytes: &mut [u8]) -> Tape {
+    if t.kind == tape::APPLY_NEW {
+        return fill_two(t, cs, input, bytes);
+    }
+    if t.kind == tape::APPLY {
+        return fill(t, input, bytes);
+    }
+    t
+}
+
+fn times(t: Tape) -> Times {
+    Times {
+        low: wire::sample(t.c),
+        mid: wire::sample(t.d),
+        high: wire::sample(t.e),
+    }
+}
+
+// The call of a record.
+fn call(
+    t: Tape,
+    s: State,
+    cs: &[f32],
+    input: &[f32],
+    store: &mut [f32],
+    work: &mut [f32],
+    output: &mut [f32],
+) -> Outcome {
+    if t.kind == tape::TAIL {
+        return reverb::tail(s, store, work, output);
+    }
+    if t.kind == tape::RESET {
+        return reverb::reset(s, store);
+    }
+    reverb::apply(s, times(t), cs, input, store, work, output)
+}
+
+// Compares what a call answered: a reset has neither verdict nor output.
+fn answered(t: Tape, a: Outcome, output: &[f32], bytes: &mut [u8]) -> Tape {
+    let answer = a.answer;
+    let verdict = a.verdict;
+    let state = a.state;
+    let u = same(t, b"answer", 0, samples::number(answer) as u64, 0);
+    let v = same(u, b"count", 0, pattern(state.count), t.a);
+    if t.kind == tape::RESET {
+        return v;
+    }
+    let w = same(v, b"verdict", 0, remaining(verdict), t.b);
+    same_row(w, b"output", 0, output, bytes)
+}
+
+fn remaining(verdict: AudioEffectState) -> u64 {
+    match verdict {
+        AudioEffectState::TailRemaining => 1,
+        AudioEffectState::TailComplete => 0,
+    }
+}
+
+// The 32 bits of a count.
+fn pattern(count: Frames) -> u64 {
+    let n = count.0;
+    if n < 0 {
+        return 4294967295 - (-1 - n) as u64;
+    }
+    n as u64
+}
+
+// Compares all that a unit keeps.
+fn kept(g: Going, store: &[f32], bytes: &mut [u8]) -> Going {
+    let t = g.tape;
+    let state = g.state;
+    let lines = state.lines;
+    let passes = state.passes;
+    let filters = state.filters;
+    let u = same_rings(t, lines, passes);
+    let v = same_filters(u, filters, bytes);
+    let tape = same_row(v, b"store", 0, store, bytes);
+    Going { state, tape }
+}
