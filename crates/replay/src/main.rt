@@ -1,10 +1,12 @@
 // Plays a recorded sample of the published Rust's answers again and compares every bit. It stops at the
 // first difference and says where. README.md has the layout of the records.
+mod kept;
 mod parts;
+mod tape;
 mod units;
 
+use crate::tape::Tape;
 use libc::STDOUT_FILENO;
-use tape::Tape;
 
 fn say_end(t: Tape) {
     if t.good {
@@ -18,7 +20,7 @@ fn say_end(t: Tape) {
 
 // A record, and where it begins a unit the whole of the unit's life.
 fn record(t: Tape, bytes: &mut [u8]) -> Tape {
-    if t.kind == tape::UNIT {
+    if t.kind == crate::tape::UNIT {
         return units::unit(t, bytes);
     }
     parts::part(t, bytes)
@@ -26,10 +28,10 @@ fn record(t: Tape, bytes: &mut [u8]) -> Tape {
 
 // Every record until the input ends or one differs.
 fn replay(bytes: &mut [u8]) -> Tape {
-    let mut t = tape::begin();
+    let mut t = crate::tape::begin();
     let mut turns = u64::MAX;
     while turns > 0 {
-        t = tape::next(t);
+        t = crate::tape::next(t);
         if !t.more {
             break;
         }

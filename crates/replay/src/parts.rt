@@ -1,25 +1,25 @@
 // The unit's parts alone: the filter, the mix, the ring, the delay values.
+use crate::kept::same_filter;
+use crate::tape::Tape;
+use crate::tape::cut;
+use crate::tape::fill;
+use crate::tape::fill_two;
+use crate::tape::same;
+use crate::tape::same_row;
 use delay::Cursors;
 use delay::RingAnswer;
 use iir::Filter;
 use samples::Samples;
-use tape::Tape;
-use tape::cut;
-use tape::fill;
-use tape::fill_two;
-use tape::same;
-use tape::same_filter;
-use tape::same_row;
 
 // The call of a record.
-pub fn part(t: Tape, bytes: &mut [u8]) -> Tape {
-    if t.kind == tape::FILTER {
+pub(crate) fn part(t: Tape, bytes: &mut [u8]) -> Tape {
+    if t.kind == crate::tape::FILTER {
         return filter(t, bytes);
     }
-    if t.kind == tape::MIX {
+    if t.kind == crate::tape::MIX {
         return mix(t, bytes);
     }
-    if t.kind == tape::DELAY {
+    if t.kind == crate::tape::DELAY {
         return value(t);
     }
     ring(t, &mut [0.0f32; 64], &mut [0.0f32; 64], bytes)
@@ -71,10 +71,10 @@ fn ring(t: Tape, samples: &mut [f32], row: &mut [f32], bytes: &mut [u8]) -> Tape
     if samples.len() < l || row.len() < n {
         return cut(t);
     }
-    if t.kind == tape::GET {
+    if t.kind == crate::tape::GET {
         return get(t, &mut samples[0..l], &mut row[0..n], bytes);
     }
-    if t.kind == tape::PUT {
+    if t.kind == crate::tape::PUT {
         return put(t, &mut samples[0..l], &mut row[0..n], bytes);
     }
     cut(t)

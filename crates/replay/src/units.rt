@@ -1,16 +1,16 @@
 // Units from fresh on: their calls, and what they keep in the end.
+use crate::kept::same_filters;
+use crate::kept::same_rings;
+use crate::tape::Tape;
+use crate::tape::fill;
+use crate::tape::fill_two;
+use crate::tape::next;
+use crate::tape::same;
+use crate::tape::same_row;
 use audio_buffer::AudioEffectState;
 use bands::Times;
 use reverb::Outcome;
 use samples::Frames;
-use tape::Tape;
-use tape::fill;
-use tape::fill_two;
-use tape::next;
-use tape::same;
-use tape::same_filters;
-use tape::same_rings;
-use tape::same_row;
 use unit::State;
 
 // A unit on its way, and where the replay is.
@@ -20,7 +20,7 @@ struct Going {
 }
 
 // A unit of the frame that its record says, on memory of that frame's lengths.
-pub fn unit(t: Tape, bytes: &mut [u8]) -> Tape {
+pub(crate) fn unit(t: Tape, bytes: &mut [u8]) -> Tape {
     if t.b == 4 {
         return live(
             t,
@@ -110,7 +110,7 @@ fn play(
 // Whether a unit's life is over.
 fn ends(t: Tape) -> bool {
     if t.more {
-        return t.kind == tape::KEPT;
+        return t.kind == crate::tape::KEPT;
     }
     true
 }
@@ -154,10 +154,10 @@ fn done(
 
 // Reads what a call is given: an apply its input, and where they are new its coefficients.
 fn given(t: Tape, cs: &mut [f32], input: &mut [f32], bytes: &mut [u8]) -> Tape {
-    if t.kind == tape::APPLY_NEW {
+    if t.kind == crate::tape::APPLY_NEW {
         return fill_two(t, cs, input, bytes);
     }
-    if t.kind == tape::APPLY {
+    if t.kind == crate::tape::APPLY {
         return fill(t, input, bytes);
     }
     t
@@ -181,10 +181,10 @@ fn call(
     work: &mut [f32],
     output: &mut [f32],
 ) -> Outcome {
-    if t.kind == tape::TAIL {
+    if t.kind == crate::tape::TAIL {
         return reverb::tail(s, store, work, output);
     }
-    if t.kind == tape::RESET {
+    if t.kind == crate::tape::RESET {
         return reverb::reset(s, store);
     }
     reverb::apply(s, times(t), cs, input, store, work, output)
@@ -197,7 +197,7 @@ fn answered(t: Tape, a: Outcome, output: &[f32], bytes: &mut [u8]) -> Tape {
     let state = a.state;
     let u = same(t, b"answer", 0, samples::number(answer) as u64, 0);
     let v = same(u, b"count", 0, pattern(state.count), t.a);
-    if t.kind == tape::RESET {
+    if t.kind == crate::tape::RESET {
         return v;
     }
     let w = same(v, b"verdict", 0, remaining(verdict), t.b);

@@ -1,9 +1,4 @@
 // The records as they come from standard input, and what is compared with them.
-mod kept;
-
-pub use kept::same_filter;
-pub use kept::same_filters;
-pub use kept::same_rings;
 ghost use Prim.Native.Nat.{_<_};
 use delay::Cursors;
 use libc::STDIN_FILENO;
@@ -12,45 +7,46 @@ use std::num::wrapping_add_u64;
 use std::num::wrapping_add_usize;
 
 // The kinds of records.
-pub const UNIT: u32 = 1;
+pub(crate) const UNIT: u32 = 1;
 
-pub const APPLY_NEW: u32 = 2;
+pub(crate) const APPLY_NEW: u32 = 2;
 
-pub const APPLY: u32 = 3;
+pub(crate) const APPLY: u32 = 3;
 
-pub const TAIL: u32 = 4;
+pub(crate) const TAIL: u32 = 4;
 
-pub const RESET: u32 = 5;
+pub(crate) const RESET: u32 = 5;
 
-pub const KEPT: u32 = 6;
+pub(crate) const KEPT: u32 = 6;
 
-pub const FILTER: u32 = 7;
+pub(crate) const FILTER: u32 = 7;
 
-pub const MIX: u32 = 8;
+pub(crate) const MIX: u32 = 8;
 
-pub const GET: u32 = 9;
+pub(crate) const GET: u32 = 9;
 
-pub const PUT: u32 = 10;
+pub(crate) const PUT: u32 = 10;
 
-pub const DELAY: u32 = 11;
+pub(crate) const DELAY: u32 = 11;
 
 // Where the replay is: how many records have begun and how many numbers of theirs were compared,
 // whether all were equal, whether there is a record to play, and that record's kind and numbers.
-pub struct Tape {
-    pub records: u64,
-    pub numbers: u64,
-    pub good: bool,
-    pub more: bool,
-    pub kind: u32,
-    pub a: u32,
-    pub b: u32,
-    pub c: u32,
-    pub d: u32,
-    pub e: u32,
-    pub f: u32,
+pub(crate) struct Tape {
+    pub(crate) records: u64,
+    pub(crate) numbers: u64,
+    pub(crate) good: bool,
+    pub(crate) more: bool,
+    pub(crate) kind: u32,
+    pub(crate) a: u32,
+    pub(crate) b: u32,
+    pub(crate) c: u32,
+    pub(crate) d: u32,
+    pub(crate) e: u32,
+    pub(crate) f: u32,
 }
 
-pub fn begin() -> Tape {
+// A replay of which no record has begun.
+pub(crate) fn begin() -> Tape {
     Tape {
         records: 0,
         numbers: 0,
@@ -79,7 +75,7 @@ fn joined(a: u8, b: u8, c: u8, d: u8) -> u32 {
 }
 
 // The i-th number of some bytes, 0 where they have none.
-pub fn word(bytes: &[u8], i: usize) -> u32 {
+pub(crate) fn word(bytes: &[u8], i: usize) -> u32 {
     if bytes.len() / 4 <= i {
         return 0;
     }
@@ -96,7 +92,7 @@ fn ended(t: Tape, good: bool) -> Tape {
 }
 
 // Ends the replay, as a record isn't whole.
-pub fn cut(t: Tape) -> Tape {
+pub(crate) fn cut(t: Tape) -> Tape {
     io::write_all(STDOUT_FILENO, b"replay: record ");
     io::print_decimal(STDOUT_FILENO, t.records);
     io::write_all(STDOUT_FILENO, b" isn't whole, or of no kind known\n");
@@ -104,7 +100,7 @@ pub fn cut(t: Tape) -> Tape {
 }
 
 // The next record, as its first eight numbers say; none after a difference or at the input's end.
-pub fn next(t: Tape) -> Tape {
+pub(crate) fn next(t: Tape) -> Tape {
     if !t.more {
         return t;
     }
@@ -136,7 +132,7 @@ fn headed(t: Tape, head: &[u8]) -> Tape {
 }
 
 // Fills a row from the input. `bytes` is room for its bytes.
-pub fn fill(t: Tape, out: &mut [f32], bytes: &mut [u8]) -> Tape {
+pub(crate) fn fill(t: Tape, out: &mut [f32], bytes: &mut [u8]) -> Tape {
     if !t.more {
         return t;
     }
@@ -153,7 +149,7 @@ pub fn fill(t: Tape, out: &mut [f32], bytes: &mut [u8]) -> Tape {
 }
 
 // Fills one row and then another.
-pub fn fill_two(t: Tape, one: &mut [f32], two: &mut [f32], bytes: &mut [u8]) -> Tape {
+pub(crate) fn fill_two(t: Tape, one: &mut [f32], two: &mut [f32], bytes: &mut [u8]) -> Tape {
     let u = fill(t, one, bytes);
     fill(u, two, bytes)
 }
@@ -192,7 +188,7 @@ fn say_kind(kind: u32) {
 }
 
 // Compares one number, and ends the replay where it differs.
-pub fn same(t: Tape, field: &[u8], index: usize, ours: u64, theirs: u32) -> Tape {
+pub(crate) fn same(t: Tape, field: &[u8], index: usize, ours: u64, theirs: u32) -> Tape {
     if !t.more {
         return t;
     }
@@ -206,7 +202,7 @@ pub fn same(t: Tape, field: &[u8], index: usize, ours: u64, theirs: u32) -> Tape
 }
 
 // Compares a ring's read and write cursor with the next two numbers of the input.
-pub fn same_cursors(t: Tape, ring: usize, c: Cursors) -> Tape {
+pub(crate) fn same_cursors(t: Tape, ring: usize, c: Cursors) -> Tape {
     if !t.more {
         return t;
     }
@@ -242,7 +238,7 @@ fn first_difference(row: &[f32], bytes: &[u8]) -> usize {
 }
 
 // Compares a row with the next numbers of the input. `at` is what its first float is called.
-pub fn same_row(t: Tape, field: &[u8], at: usize, row: &[f32], bytes: &mut [u8]) -> Tape {
+pub(crate) fn same_row(t: Tape, field: &[u8], at: usize, row: &[f32], bytes: &mut [u8]) -> Tape {
     if !t.more {
         return t;
     }

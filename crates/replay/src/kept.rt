@@ -1,12 +1,12 @@
 // What a unit keeps, compared: the cursors of its rings and its filters.
-use crate::Tape;
-use crate::same_cursors;
-use crate::same_row;
+use crate::tape::Tape;
+use crate::tape::same_cursors;
+use crate::tape::same_row;
 use delay::Cursors;
 use iir::Filter;
 
 // Compares a filter's nine numbers. `at` is what the first is called.
-pub fn same_filter(t: Tape, at: usize, f: Filter, bytes: &mut [u8]) -> Tape {
+pub(crate) fn same_filter(t: Tape, at: usize, f: Filter, bytes: &mut [u8]) -> Tape {
     same_row(
         t,
         b"filter number",
@@ -27,7 +27,7 @@ fn cursors_of(lines: [Cursors; 16], passes: [Cursors; 4], ring: usize) -> Cursor
 }
 
 // Compares the cursors of all twenty rings.
-pub fn same_rings(t: Tape, lines: [Cursors; 16], passes: [Cursors; 4]) -> Tape {
+pub(crate) fn same_rings(t: Tape, lines: [Cursors; 16], passes: [Cursors; 4]) -> Tape {
     let mut u = t;
     for i in 0..20usize {
         u = same_cursors(u, i, cursors_of(lines, passes, i));
@@ -36,7 +36,7 @@ pub fn same_rings(t: Tape, lines: [Cursors; 16], passes: [Cursors; 4]) -> Tape {
 }
 
 // Compares the filters: nine numbers each, in a row.
-pub fn same_filters(t: Tape, fs: [Filter; 51], bytes: &mut [u8]) -> Tape {
+pub(crate) fn same_filters(t: Tape, fs: [Filter; 51], bytes: &mut [u8]) -> Tape {
     let mut u = t;
     for i in 0..51usize {
         let f = fs[i];

@@ -1,10 +1,10 @@
--- `tape::kept::same_filters` meets its contract. Assumes nothing.
+-- `replay::kept::same_filters` meets its contract. Assumes nothing.
 use mathlib.Core.Path.{_≡_}
 use Prim.Native.Nat.{_-_, _≤_}
 use lib.ListN.{length}
 use borrow.Author.Needs.{needs}
-use Rattle.tape.proofs.kept.same_filters.Statement.{statement}
-use Rattle.tape.proofs.kept.same_filters.Tie as tie
+use Rattle.replay.proofs.kept.same_filters.Statement.{statement}
+use Rattle.replay.proofs.kept.same_filters.Tie as tie
 
 abbrev Inv-loop : tie.InvT-loop
 Inv-loop bytes₀ fs u₀ i₀ bytes u i = (length bytes ≡ length bytes₀) × (i ≤ 51)

@@ -1,8 +1,8 @@
--- `tape::kept::same_rings` meets its contract. Assumes nothing.
+-- `replay::kept::same_rings` meets its contract. Assumes nothing.
 use Prim.Native.Nat.{_-_, _≤_}
 use borrow.Author.Needs.{needs}
-use Rattle.tape.proofs.kept.same_rings.Statement.{statement}
-use Rattle.tape.proofs.kept.same_rings.Tie as tie
+use Rattle.replay.proofs.kept.same_rings.Statement.{statement}
+use Rattle.replay.proofs.kept.same_rings.Tie as tie
 
 abbrev Inv-loop : tie.InvT-loop
 Inv-loop lines passes u₀ i₀ u i = i ≤ 20

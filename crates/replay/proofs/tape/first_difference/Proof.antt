@@ -1,10 +1,10 @@
--- `tape::first_difference` meets its contract. Assumes nothing.
+-- `replay::tape::first_difference` meets its contract. Assumes nothing.
 use borrow.Author.Needs.{needs}
 use mathlib.Core.Path.{_≡_}
 use Prim.Native.Nat.{_-_, _≤_}
 use lib.ListN.{length}
-use Rattle.tape.proofs.first_difference.Statement.{statement}
-use Rattle.tape.proofs.first_difference.Tie as tie
+use Rattle.replay.proofs.tape.first_difference.Statement.{statement}
+use Rattle.replay.proofs.tape.first_difference.Tie as tie
 
 abbrev Inv-loop : tie.InvT-loop
 Inv-loop row bytes i₀ i-end i = (i ≤ i-end) × (i-end ≡ length row)
