@@ -1,7 +1,6 @@
 // Plays a recorded sample of the published Rust's answers again and compares every bit. It stops at the
 // first difference and says where. README.md has the layout of the records.
 mod kept;
-mod parts;
 mod tape;
 mod units;
 
@@ -18,12 +17,12 @@ fn say_end(t: Tape) {
     }
 }
 
-// A record, and where it begins a unit the whole of the unit's life.
+// The whole life of a unit, which a record begins.
 fn record(t: Tape, bytes: &mut [u8]) -> Tape {
     if t.kind == crate::tape::UNIT {
         return units::unit(t, bytes);
     }
-    parts::part(t, bytes)
+    crate::tape::cut(t)
 }
 
 // Every record until the input ends or one differs.

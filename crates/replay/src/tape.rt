@@ -19,16 +19,6 @@ pub(crate) const RESET: u32 = 5;
 
 pub(crate) const KEPT: u32 = 6;
 
-pub(crate) const FILTER: u32 = 7;
-
-pub(crate) const MIX: u32 = 8;
-
-pub(crate) const GET: u32 = 9;
-
-pub(crate) const PUT: u32 = 10;
-
-pub(crate) const DELAY: u32 = 11;
-
 // Where the replay is: how many records have begun and how many numbers of theirs were compared,
 // whether all were equal, whether there is a record to play, and that record's kind and numbers.
 pub(crate) struct Tape {
@@ -177,12 +167,7 @@ fn say_kind(kind: u32) {
         3 => io::write_all(STDOUT_FILENO, b", apply: "),
         4 => io::write_all(STDOUT_FILENO, b", tail: "),
         5 => io::write_all(STDOUT_FILENO, b", reset: "),
-        6 => io::write_all(STDOUT_FILENO, b", what is kept: "),
-        7 => io::write_all(STDOUT_FILENO, b", filter run: "),
-        8 => io::write_all(STDOUT_FILENO, b", mix: "),
-        9 => io::write_all(STDOUT_FILENO, b", ring get: "),
-        10 => io::write_all(STDOUT_FILENO, b", ring put: "),
-        _ => io::write_all(STDOUT_FILENO, b", delay value: "),
+        _ => io::write_all(STDOUT_FILENO, b", what is kept: "),
     }
     ;
 }

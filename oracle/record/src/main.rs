@@ -4,7 +4,6 @@
 #[path = "../../differential/src/dice.rs"]
 #[allow(dead_code)]
 mod dice;
-mod parts;
 #[path = "../../differential/src/sounds.rs"]
 #[allow(dead_code)]
 mod sounds;
@@ -33,7 +32,6 @@ fn main() -> io::Result<()> {
     for (trial, (rate, frame, frames)) in (0..).zip(UNITS) {
         units::play(&mut Dice::new(1, trial), &mut tape, rate, frame, frames);
     }
-    parts::all(&mut Dice::new(1, u64::MAX), &mut tape);
     eprintln!("{tape}");
     io::stdout().lock().write_all(tape.bytes())
 }

@@ -11,11 +11,6 @@ pub enum Kind {
     Tail = 4,
     Reset = 5,
     Kept = 6,
-    Filter = 7,
-    Mix = 8,
-    Get = 9,
-    Put = 10,
-    Delay = 11,
 }
 
 /// What has been recorded so far.
