@@ -1,8 +1,9 @@
 /* Tests of the C face: include/hall.h against libhall.a.
  *
  * That the two agree on the layout of every struct is checked by calls: each field of a state is given a value on
- * which an answer depends, and each answer is written to a place with a margin behind it. Then frames are played whole and as jobs, every number of the table is met, and after each
- * refusal the bytes of every lent slice are compared, the payloads of NaNs too. */
+ * which an answer depends, and each answer is written to a place with a margin behind it. Then frames are played
+ * whole and as jobs, every number of the table is met, and after each refusal the bytes of every lent slice are
+ * compared, the payloads of NaNs too. */
 
 #include "hall.h"
 
