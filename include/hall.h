@@ -163,7 +163,8 @@ hall_answer hall_tail(hall_state s, float *store, size_t store_len, float *work,
  * Open, then the 34 jobs, then close. Read 0 to 15, once each, in any order; the mix once, after all reads;
  * line 0 to 15, once each, after the mix; output once, after all reads (it need not wait for the mix). Close
  * comes after all 34. Store, output, cursors and count change at close and not before; the work memory carries
- * the frame and must not be touched until then. A refused job changes nothing, so it may be asked for again. */
+ * the frame and must not be touched until then. A refused job changes nothing, so it may be asked for again.
+ * One call at a time: each is given the state that the one before it handed back, and is lent all of work. */
 
 /* Answers 1, 3, 5 to 8. */
 hall_answer hall_open_apply(hall_state s, float t0, float t1, float t2, const float *coefficients,
