@@ -6,18 +6,17 @@ use Prim.Native.Nat.{ℕ, zero, suc, _+_, _*_, _/_, _%_, _≤_, _<_}
 use native.Mathlib.Nat.{zero-mul, suc-mul, mul-zero, mul-comm, mul-le-mul, div-lt-iff-lt-mul, mod-lt, div-add-mod', not-suc-le-zero, le-of-suc-le-suc}
 use native.Mathlib.Omega.{arith}
 use lib.Dec.{eqb, ltb}
-use lib.ListN.{length, getD, take, drop, replicate, length-append, length-map, length-replicate, List·getD-append}
+use lib.ListN.{length, getD, drop, length-append, List·getD-append}
 use lib.Seq.{getD-drop, getD-append-add, ext-getD}
 use lib.Ieee.{Float, nan}
-use borrow.Author.Tests.{leb-true, ltb-true, eqb-true, le-leb, eq-eqb}
+use borrow.Author.Tests.{leb-true, ltb-true, eqb-true}
 use Rattle.samples.specs.declared.Answer.{Answer}
 use Rattle.samples.specs.declared.Answer.the-variants.{Accepted, BadLength, BadIndex}
-use Rattle.samples.specs.Binary32.{_⊗_, +0}
 use Rattle.samples.proofs.Laws.{needed, split-and}
 use Rattle.samples.proofs.Turns.{row-ends}
 use Rattle.audio_buffer.specs.Judges.{channelsOk, samplesOk, judgedThen, judgedTwo, judgedDownmix, judgedChannel}
 use Rattle.audio_buffer.specs.Layout.{column, columns, interleaved, deinterleaved}
-use Rattle.audio_buffer.specs.Levels.{scaled, mixed, summed, downmixed}
+use Rattle.audio_buffer.specs.Levels.{mixed}
 
 -- ---- what a judgement tells
 
@@ -43,13 +42,6 @@ judged-of channels samples len rest e =
     let p = needed (channelsOk channels && samplesOk samples) BadIndex _ refl e in
     let q = needed (eqb len (channels * samples)) BadLength rest refl (p .1) in
     (counts-of channels samples (p .0), eqb-true _ _ (q .0), q .1)
-
--- and the other way: a slice of the right length is left to the rest
-pub judged-yes : (channels samples len : ℕ) (rest : Answer) → 1 ≤ channels → channels ≤ 16 → samples ≤ 65536 → len ≡ channels * samples
-    → judgedThen channels samples len rest ≡ rest
-unfolding judgedThen channelsOk
-judged-yes channels samples len rest some few short fills =
-    rw (le-leb 1 channels some, le-leb channels 16 few, le-leb samples 65536 short, eq-eqb len (channels * samples) fills)
 
 pub two-of : (channels samples len other : ℕ) → judgedTwo channels samples len other ≡ Accepted
     → (len ≡ channels * samples) × (other ≡ channels * samples)
@@ -133,12 +125,6 @@ columns-back row n xs e = ext-getD nan _ xs (long ∙ sym e) same
         ∙ nth xs (p .2)
 
 module _ (channels samples : ℕ) (xs : List Float) where
-  pub interleaved-length : length (interleaved channels samples xs) ≡ samples * channels
-  interleaved-length = columns-length samples channels samples xs
-
-  pub deinterleaved-length : length (deinterleaved channels samples xs) ≡ channels * samples
-  deinterleaved-length = columns-length channels samples channels xs
-
   -- sample t of channel c lies at c of frame t, and back
   pub interleaved-at : (c t : ℕ) → c < channels → t < samples
       → getD (interleaved channels samples xs) (t * channels + c) nan ≡ getD xs (c * samples + t) nan
@@ -156,22 +142,7 @@ module _ (channels samples : ℕ) (xs : List Float) where
 
 -- ---- levels
 
-pub scaled-length : (volume : Float) (xs : List Float) → length (scaled volume xs) ≡ length xs
-scaled-length volume xs = length-map xs (λ x. x ⊗ volume)
-
 pub mixed-length : (xs other : List Float) → length (mixed xs other) ≡ length other
 mixed-length [] other = refl
 mixed-length (x ∷ xs) [] = refl
 mixed-length (x ∷ xs) (y ∷ other) = ap suc (mixed-length xs other)
-
-summed-length : (samples n : ℕ) (row buffer : List Float) → length (summed samples n row buffer) ≡ length row
-summed-length samples zero row buffer = refl
-summed-length samples (suc n) row buffer =
-    summed-length samples n (mixed (take samples buffer) row) (drop samples buffer) ∙ mixed-length (take samples buffer) row
-
-pub downmixed-length : (channels samples : ℕ) (buffer : List Float) → length (downmixed channels samples buffer) ≡ samples
-unfolding downmixed
-downmixed-length channels samples buffer =
-    length-map (summed samples channels (replicate samples +0) buffer) _
-    ∙ summed-length samples channels (replicate samples +0) buffer
-    ∙ length-replicate samples +0

@@ -13,7 +13,7 @@ use borrow.Author.Tests.{ltb-true, ltb-false}
 use Rattle.samples.specs.Binary32.{+0}
 use Rattle.samples.specs.declared.Answer.the-variants.{Accepted, BadSize, BadTime}
 use Rattle.samples.specs.Sizes.{rateOk, frameOk}
-use Rattle.samples.proofs.Laws.{split-and, join-and, needed, accept-either, Rate, rate-of, Frame, frame-of}
+use Rattle.samples.proofs.Laws.{split-and, needed, accept-either, Rate, rate-of, Frame, frame-of}
 use Rattle.bands.specs.declared.Times.{Times}
 use Rattle.bands.specs.Times.{timeOk, timesOk, larger, largest}
 use Rattle.bands.specs.Tail.{ceiling, framesIn, judgedCount, tailCount, countOf, CountRange}
@@ -123,9 +123,6 @@ counts t rate frame e =
     let p = needed (rateOk rate && frameOk frame) BadSize _ refl e in
     let s = split-and _ _ (p .0) in
     record { rates = rate-of rate (s .0); frames = frame-of frame (s .1); time = largest-ok t (needed (timesOk t) BadTime Accepted refl (p .1) .0) }
-
-pub counts-accepted : (t : Times) (rate frame : ℕ) → rateOk rate ≡ true → frameOk frame ≡ true → timesOk t ≡ true → judgedCount t rate frame ≡ Accepted
-counts-accepted t rate frame r f k = rw (join-and r f, k) refl
 
 tail-upto : (t : Times) (rate frame : ℕ) → judgedCount t rate frame ≡ Accepted → tailCount t rate frame ≤ 9600000
 tail-upto t rate frame e =

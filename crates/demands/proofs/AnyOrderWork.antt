@@ -1,11 +1,10 @@
 -- The work memory cut into its rows and joined again. Assumes nothing.
 use Prim.Native.Nat.{ℕ, _+_, _*_}
 use mathlib.Core.Path.{_≡_, sym, ap, _∙_}
-use mathlib.Core.List.{List, _++_}
+use mathlib.Core.List.{_++_}
 use native.Mathlib.Nat.{add-mul}
 use native.Mathlib.Omega.{arith}
-use lib.Ieee.{Float}
-use lib.ListN.{length, take, drop, length-append, take-append-drop}
+use lib.ListN.{length, take, drop, length-append}
 use lib.Seq.{take-at, drop-at, drop-drop}
 use Rattle.unit.specs.Model.{Model}
 use Rattle.unit.specs.Sizes.{total, workLen}
@@ -35,21 +34,6 @@ cut-joined m f r l =
     let t2 = ap (take k) d2 ∙ take-at (r .mixed) four k (l .mixed) in
     let t3 = ap (take f) d3 ∙ take-at (r .output) (r .rings) f (l .output) in
     λ i. record { input = t0 i; reads = t1 i; mixed = t2 i; output = t3 i; rings = d4 i }
-
--- and what is cut is whole again when joined
-pub joined-cut : (m : Model) (f : ℕ) (work : List Float) → joined (rowsOf m f work) ≡ work
-unfolding rowsOf joined
-joined-cut m f work =
-    let k = m .lines * f in
-    rw (
-      ← drop-drop f (f + k + k) work,
-      take-append-drop f (drop (f + k + k) work),
-      ← drop-drop k (f + k) work,
-      take-append-drop k (drop (f + k) work),
-      ← drop-drop k f work,
-      take-append-drop k (drop f work),
-    )
-    (take-append-drop f work)
 
 -- they are as long as the work memory
 pub length-joined : (m : Model) (f : ℕ) (r : Rows) → Long m f r → length (r .rings) ≡ total (m .passes) → length (joined r) ≡ workLen m f

@@ -24,7 +24,7 @@ use Rattle.unit.specs.Model.{wall}
 use Rattle.unit.specs.Range.{inRange}
 use Rattle.unit.specs.Judges.{judged, judgedFresh, judgedReset, judgedTail, judgedApply, judgedGiven, badInput, givenOk, lentOk}
 use Rattle.frame.specs.Frame.{Frame, newFilters}
-use Rattle.frame.specs.Settle.{nineOf, frameFinite, settled, fallen}
+use Rattle.frame.specs.Settle.{frameFinite, settled, fallen}
 use Rattle.reverb.specs.declared.Outcome.{Outcome}
 use Rattle.reverb.specs.Whole.{after, counted, applyFrame, applyCount, tailFrame, wholeAnswer, wholeUnit, wholeStore, wholeWork, wholeOutput}
 use Rattle.reverb.proofs.fresh.Kinds as reverb-fresh-kinds

@@ -6,7 +6,7 @@ use Prim.Native.Nat.{ℕ, zero, suc, _+_, _*_, _/_, _%_, _≤_, _<_}
 use native.Mathlib.Nat.{mul-assoc, mul-mod-right, mul-div-right, div-add-mod}
 use native.Mathlib.Omega.{arith}
 use lib.Dec.{eqb}
-use lib.ListN.{length, getD, take, length-append, drop-of-length-le, List·getD-append}
+use lib.ListN.{length, getD, take, length-append, drop-of-length-le}
 use lib.Seq.{take-at, getD-take}
 use lib.Ieee.{Float, nan}
 use borrow.Author.Tests.{eq-eqb, ne-eqb, eqb-true}
@@ -49,11 +49,6 @@ module _ (n f : ℕ) (k : Float) (u v : List Float) (same : (i : ℕ) → i < n 
   unfolding mixedRows
   rows-ext = joined-ext n (mixedRow n f k u) (mixedRow n f k v) (λ r h. row-ext r)
 
--- what lies after them does not count
-pub rows-only : (n f : ℕ) (k : Float) (reads rest : List Float) → length reads ≡ n * f
-    → mixedRows n f k (reads ++ rest) ≡ mixedRows n f k reads
-rows-only n f k reads rest e = rows-ext n f k (reads ++ rest) reads (λ i h. List·getD-append reads rest nan i (omega arith))
-
 -- ---- rows of one sample: the mix of rows is the mix of the sample
 
 pub one-sample : (n : ℕ) (k : Float) (xs : List Float) → length xs ≡ n → mixedRows n 1 k xs ≡ mixed n k xs
@@ -67,10 +62,6 @@ unfolding judgedSample
 sixteen x y a =
     let both = split-and (eqb x 16) (eqb y 16) (needed _ BadLength Accepted refl a .0) in
     (eqb-true x 16 (both .0), eqb-true y 16 (both .1))
-
-pub sample-accepted : (x y : ℕ) → x ≡ 16 → y ≡ 16 → judgedSample x y ≡ Accepted
-unfolding judgedSample
-sample-accepted x y p q = rw (p, q)
 
 -- n rows twice are all there is, but for the remainder
 twice : (n len : ℕ) → n * (len / (2 * n)) + n * (len / (2 * n)) + len % (2 * n) ≡ len

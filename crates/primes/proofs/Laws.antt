@@ -1,8 +1,8 @@
--- What the judgements tell, the range of a delay value, and the two ways out of a call that gives a value. Assumes nothing.
+-- What the judgements tell, the range of delay_min, and the two ways out of a call that gives a value. Assumes nothing.
 use mathlib.Core.Path.{_≡_, refl, sym, ap}
 use mathlib.Core.Bool.{Bool, true, false, true≢false, _&&_}
-use mathlib.Core.List.{List, [], _∷_}
-use Prim.Native.Nat.{ℕ, suc, _+_, _%_, _≤_, _<_}
+use mathlib.Core.List.{List, _∷_}
+use Prim.Native.Nat.{ℕ, _+_, _≤_, _<_}
 use native.Mathlib.Omega.{arith}
 use lib.IntN.{pos}
 use lib.Dec.{leb, eqb, lit≤}
@@ -21,10 +21,7 @@ use Rattle.bands.specs.Times.{timeOk}
 use Rattle.bands.proofs.Bounds.{Upto, held, held-int, value-upto, mul-upto, div-upto, whole-upto}
 use Rattle.bands.proofs.Tail.{time-upto}
 use Rattle.primes.specs.declared.Value.{Value}
-use Rattle.primes.specs.Table.{primeAt}
 use Rattle.primes.specs.Values.{valued, delayMin, valueFrom, valuesFrom, judgedTime, judgedIndex, judgedPower, judgedMin, judgedValue, judgedValues}
-use Rattle.primes.proofs.Table.{prime-range}
-use Rattle.primes.proofs.Power.{power-least}
 
 -- ---- the two ways out of a call that gives a value
 
@@ -96,14 +93,6 @@ min-upto time rate t r =
 pub min-range : (time : Float) (rate : ℕ) → timeOk time ≡ true → rate ≤ 192000 → delayMin time rate ≤ 192000
 min-range time rate t r = whole-upto _ 192000 (min-upto time rate t r)
 
--- every delay value is at least 1
-pub value-least : (least random index : ℕ) → index < 16 → 1 ≤ valueFrom least random index
-value-least least random index h = power-least (primeAt index) (least + random % 101) (prime-range index h .0)
-
 -- what is left from line i on is its value, and then the rest
 pub values-next : (least i : ℕ) (rs : List ℕ) → i < length rs → valuesFrom least i (drop i rs) ≡ valueFrom least (getD rs i 0) i ∷ valuesFrom least (i + 1) (drop (i + 1) rs)
 values-next least i rs h = ap (valuesFrom least i) (next rs i 0 h)
-
-pub values-length : (least i : ℕ) (rs : List ℕ) → length (valuesFrom least i rs) ≡ length rs
-values-length least i [] = refl
-values-length least i (r ∷ rs) = ap suc (values-length least (i + 1) rs)

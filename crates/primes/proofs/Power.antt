@@ -4,7 +4,7 @@ use mathlib.Core.Path.{_≡_, refl, sym, ap, _∙_}
 use mathlib.Core.Logic.{inl, inr}
 use mathlib.Core.Bool.{Bool, true, false, cond}
 use Prim.Native.Nat.{ℕ, zero, suc, _+_, _-_, _*_, _/_, _%_, _^_, _≤_, _<_, min, max}
-use native.Mathlib.Nat.{le-trans, le-of-lt, lt-of-le-of-lt, lt-of-lt-of-le, not-le-of-lt, le-mul-of-pos-right, le-antisymm, eq-or-lt-of-le, zero-mul, one-mul, mul-one, mul-assoc, mul-comm, mul-mul-mul-comm, mul-add, one-le-pow, pow-zero, pow-suc, pow-succ', pow-le-pow-right, mul-le-mul-left, mul-le-mul-right, le-of-mul-le-mul-right, le-of-eq, le-refl, mul-right-comm, min-le-left, min-le-right, le-max-left, le-max-right, min-eq-left, min-eq-right, max-eq-left, max-eq-right, mul-lt-mul-of-pos-right, mod-lt, div-add-mod', mul-add-mod-self-right, mul-mod-left, eq-zero-or-pos, eq-of-mul-eq-mul-right}
+use native.Mathlib.Nat.{le-trans, le-of-lt, lt-of-le-of-lt, lt-of-lt-of-le, not-le-of-lt, le-mul-of-pos-right, le-antisymm, eq-or-lt-of-le, zero-mul, one-mul, mul-one, mul-assoc, mul-comm, mul-mul-mul-comm, mul-add, pow-zero, pow-suc, pow-succ', pow-le-pow-right, mul-le-mul-left, mul-le-mul-right, le-of-mul-le-mul-right, le-of-eq, le-refl, mul-right-comm, min-le-left, min-le-right, le-max-left, le-max-right, min-eq-left, min-eq-right, max-eq-left, max-eq-right, mul-lt-mul-of-pos-right, mod-lt, div-add-mod', mul-add-mod-self-right, mul-mod-left, eq-zero-or-pos, eq-of-mul-eq-mul-right}
 use native.Mathlib.Omega.{arith}
 use lib.Dec.{ltb, eqb}
 use lib.Pow.{pow-add}
@@ -112,10 +112,6 @@ reached-upto p x v h l = elim (lt-or-ge x v) [
   | inl g ↦ absurd (not-le-of-lt (squares x v g) (le-trans (le-mul-of-pos-right (v * v) h) l))
   | inr g ↦ g
 ]
-
--- every power is at least 1
-pub power-least : (p x : ℕ) → 2 ≤ p → 1 ≤ nearestPower p x
-power-least p x h = let n = nearest p x h in rw (n .1) (one-le-pow (n .0) p (omega arith))
 
 -- ---- nearest in ratio
 

@@ -6,7 +6,7 @@ use native.Mathlib.Nat.{add-assoc}
 use native.Mathlib.Numerals.{add-one}
 use native.Mathlib.Omega.{arith}
 use lib.Dec.{T}
-use lib.ListN.{length, getD, take, drop, set, replicate, length-append, length-take, length-drop, drop-of-length-le}
+use lib.ListN.{length, getD, take, drop, set, replicate, length-take, length-drop, drop-of-length-le}
 use lib.Seq.{drop-drop, take-suc, take-at, drop-at, take-length, length-take-le, sets-eq}
 use lib.Ieee.{Float, nan, binary32, fits, ofBits, toBits}
 use lib.Ieee.Bits.{ofBits-toBits, toBits-lt}
@@ -57,17 +57,6 @@ decoded-more bytes n i h =
     let f : 4 * i + 4 ≡ 4 * (i + 1) = omega arith in
     rw (e, drop-drop, f)
 
-pub decoded-length : (n : ℕ) (bytes : List ℕ) → length (decoded n bytes) ≡ n
-decoded-length zero bytes = refl
-decoded-length (suc n) bytes = ap suc (decoded-length n (drop 4 bytes))
-
--- what is no whole float gives +0
-pub decoded-short : (n : ℕ) (bytes : List ℕ) → length bytes < 4 → decoded n bytes ≡ replicate n +0
-decoded-short zero bytes h = refl
-decoded-short (suc n) bytes h =
-    let none : drop 4 bytes ≡ [] = drop-of-length-le bytes {i = 4} (omega arith) in
-    rw (first-short bytes h, none, decoded-short n [] (omega arith))
-
 -- ---- encoding
 
 pub encoded-length : (xs : List Float) → length (encoded xs) ≡ 4 * length xs
@@ -93,11 +82,7 @@ encoded-more xs out i h =
     let more : encoded (take (i + 1) xs) ≡ front ++ four = rw (add-one, take-suc xs i nan h) (encoded-append (take i xs) (getD xs i nan ∷ [])) in
     put ∙ rw (more, append-assoc)
 
--- what is written over keeps its length, and where the floats just fit nothing of it is left
-pub written-length : (xs : List Float) (out : List ℕ) → length (written xs out) ≡ length out
-unfolding written
-written-length xs out = simp (length-append, encoded-length, length-take, length-drop) (omega arith)
-
+-- where the floats just fit, nothing of what is written over is left
 pub written-all : (xs : List Float) (out : List ℕ) → length out ≡ 4 * length xs → written xs out ≡ encoded xs
 unfolding written
 written-all xs out e =
