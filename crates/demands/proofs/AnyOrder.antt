@@ -6,6 +6,7 @@ use mathlib.Core.Bool.{Bool, true, false, _&&_}
 use mathlib.Core.List.{List}
 use mathlib.Core.Logic.{_⊎_, inl, inr}
 use borrow.Author.Tests.{eq-eqb}
+use lib.IntN.{ℤ}
 use lib.Ieee.{Float}
 use lib.ListN.{length, replicate}
 use Rattle.samples.specs.declared.Answer.{Answer}
@@ -14,17 +15,19 @@ use Rattle.samples.specs.Answers.{need, accept}
 use Rattle.samples.specs.Binary32.{+0}
 use Rattle.audio_buffer.specs.declared.AudioEffectState.the-variants.{TailComplete}
 use Rattle.audio_buffer.specs.Verdict.{verdictOf}
+use Rattle.delay.specs.declared.Cursors.{Cursors}
+use Rattle.iir.specs.declared.Filter.{Filter}
 use Rattle.unit.specs.Hall.{Hall}
 use Rattle.unit.specs.Model.{Model}
 use Rattle.frame.specs.Frame.{Frame, newFilters}
 use Rattle.frame.specs.Settle.{frameFinite, nineOf, settled, settledIn}
-use Rattle.reverb.specs.Whole.{after as played, wholeAnswer, wholeUnit, wholeStore, wholeOutput, wholeWork}
+use Rattle.reverb.specs.Whole.{movedOn, after as played, wholeAnswer, wholeUnit, wholeStore, wholeOutput, wholeWork}
 use Rattle.turns.specs.Marks.{allDone}
 use Rattle.rows.specs.Rows.{Rows, rowsOf}
 use Rattle.turns.specs.Turns.{judgedClose}
 use Rattle.jobs.specs.Play.{Play, countFor, frameFor, wholeDue}
 use Rattle.lines.specs.Parts.{rowsFinite}
-use Rattle.jobs.specs.Close.{nineOfRows, closed, shut, cleared}
+use Rattle.jobs.specs.Close.{nineOfRows, idle as ended, closed, shut, cleared}
 use Rattle.jobs.specs.Close.{closeAnswer, closeVerdict, closeUnit, closeStore, closeOutput, closeWork}
 use Rattle.demands.specs.Jobs.{Memory}
 use Rattle.demands.specs.Calls.{atOnce, closing, start, answer}
@@ -103,14 +106,15 @@ module _ (m : Model) (w : Memory) (p : Play) (begins : Begins m (w .unit)) (e : 
     quiet : Idle m u
     quiet = idle m u begins (opens .range) (opens .free)
 
-    closed-is : closed m full ≡ played m u (newFilters R) (countFor u p)
-    closed-is = λ t. record {
+    ended-is : (lines passes : List Cursors) (count : ℤ) (filters : List Filter)
+        → ended m u lines passes count filters ≡ movedOn u lines passes filters count
+    ended-is lines passes count filters = λ t. record {
       rate = u .rate;
       frame = u .frame;
-      lines = closed m full .lines;
-      passes = closed m full .passes;
-      count = countFor u p;
-      filters = newFilters R;
+      lines = lines;
+      passes = passes;
+      count = count;
+      filters = filters;
       busy = sym (quiet .busy) t;
       tail = sym (quiet .tail) t;
       marks = sym (quiet .marks) t;
@@ -118,20 +122,11 @@ module _ (m : Model) (w : Memory) (p : Play) (begins : Begins m (w .unit)) (e : 
       before = sym (quiet .before) t;
     }
 
+    closed-is : closed m full ≡ played m u (newFilters R) (countFor u p)
+    closed-is = ended-is (closed m full .lines) (closed m full .passes) (countFor u p) (newFilters R)
+
     shut-is : shut m full ≡ u
-    shut-is = λ t. record {
-      rate = u .rate;
-      frame = u .frame;
-      lines = u .lines;
-      passes = u .passes;
-      count = u .count;
-      filters = u .filters;
-      busy = sym (quiet .busy) t;
-      tail = sym (quiet .tail) t;
-      marks = sym (quiet .marks) t;
-      next = sym (quiet .next) t;
-      before = sym (quiet .before) t;
-    }
+    shut-is = ended-is (u .lines) (u .passes) (u .count) (u .filters)
 
     -- the work memory is as long as it was
     work-is : cleared (v .work) ≡ cleared (w .work)
