@@ -41,6 +41,7 @@ fn ramp(start: f32) -> [f32; 128] {
     row
 }
 
+// The times of every apply.
 fn times() -> Times {
     Times {
         low: 0.1,
@@ -205,6 +206,7 @@ fn same_filter(f: Filter, g: Filter) -> bool {
     )
 }
 
+// Whether all filters of two units are.
 fn same_filters(fs: [Filter; 51], gs: [Filter; 51]) -> bool {
     for i in 0..51usize {
         let f = fs[i];
@@ -225,6 +227,7 @@ fn same_unit(s: State, t: State) -> bool {
     and(n == m, same_filters(fs, gs))
 }
 
+// Writes how an order went.
 fn say(order: u32, ok: bool, equal: bool) {
     io::write_all(STDOUT_FILENO, b"order ");
     io::print_decimal(STDOUT_FILENO, order as u64);

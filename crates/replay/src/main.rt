@@ -7,6 +7,7 @@ mod units;
 use crate::tape::Tape;
 use libc::STDOUT_FILENO;
 
+// Writes how much was compared, where all was equal; a difference is written where it is found.
 fn say_end(t: Tape) {
     if t.good {
         io::write_all(STDOUT_FILENO, b"replay: ");

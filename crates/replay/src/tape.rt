@@ -32,7 +32,6 @@ pub(crate) struct Tape {
     pub(crate) c: u32,
     pub(crate) d: u32,
     pub(crate) e: u32,
-    pub(crate) f: u32,
 }
 
 // A replay of which no record has begun.
@@ -48,7 +47,6 @@ pub(crate) fn begin() -> Tape {
         c: 0,
         d: 0,
         e: 0,
-        f: 0,
     }
 }
 
@@ -105,6 +103,7 @@ pub(crate) fn next(t: Tape) -> Tape {
     headed(t, &head)
 }
 
+// The record that begins with these eight numbers, of which the last two are 0 in every kind.
 fn headed(t: Tape, head: &[u8]) -> Tape {
     Tape {
         records: wrapping_add_u64(t.records, 1),
@@ -117,7 +116,6 @@ fn headed(t: Tape, head: &[u8]) -> Tape {
         c: word(head, 3),
         d: word(head, 4),
         e: word(head, 5),
-        f: word(head, 6),
     }
 }
 
@@ -238,6 +236,7 @@ pub(crate) fn same_row(t: Tape, field: &[u8], at: usize, row: &[f32], bytes: &mu
     judged(t, field, at, row, bytes)
 }
 
+// Compares a row with the numbers that were read for it.
 fn judged(t: Tape, field: &[u8], at: usize, row: &[f32], bytes: &[u8]) -> Tape {
     let mut u = t;
     u.numbers = wrapping_add_u64(t.numbers, row.len() as u64);

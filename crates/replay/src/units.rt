@@ -74,6 +74,7 @@ fn live(
     play(g, input, store, work, output, bytes)
 }
 
+// The fresh unit.
 fn begin(t: Tape, store: &mut [f32]) -> Going {
     let a = reverb::fresh(t.a, t.b as usize, store);
     let answer = a.answer;
@@ -163,6 +164,7 @@ fn given(t: Tape, cs: &mut [f32], input: &mut [f32], bytes: &mut [u8]) -> Tape {
     t
 }
 
+// The times of an apply.
 fn times(t: Tape) -> Times {
     Times {
         low: wire::sample(t.c),
@@ -204,6 +206,7 @@ fn answered(t: Tape, a: Outcome, output: &[f32], bytes: &mut [u8]) -> Tape {
     same_row(w, b"output", 0, output, bytes)
 }
 
+// A verdict as the records have it.
 fn remaining(verdict: AudioEffectState) -> u64 {
     match verdict {
         AudioEffectState::TailRemaining => 1,
