@@ -104,10 +104,11 @@ wholeOutput due r output = accept (wholeAnswer due r) (r .output .out) output
 unfoldable pub wholeWork : Answer → List Float → List Float
 wholeWork due work = accept due (replicate (length work) +0) work
 
--- "Verdict: TailRemaining exactly if above 0"; "A refused call .. gives .. for a verdict TailComplete."
+-- what a call gives back
 abbrev pub outcome : Answer → Hall → AudioEffectState → Outcome
 outcome a u verdict = record { answer = a; verdict = verdict; state = toState u }
 
+-- "Verdict: TailRemaining exactly if above 0"; "A refused call .. gives .. for a verdict TailComplete."
 abbrev pub wholeOutcome : Model → Hall → Answer → Frame → ℤ → Outcome
 wholeOutcome m u due r count =
     outcome (wholeAnswer due r) (wholeUnit m u due r count) (accept (wholeAnswer due r) (verdictOf count) TailComplete)
