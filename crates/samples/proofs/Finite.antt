@@ -2,7 +2,8 @@
 use mathlib.Core.Path.{_≡_, refl, sym, ap, _∙_}
 use mathlib.Core.Bool.{Bool, true, false, _&&_, cond}
 use mathlib.Core.List.{List, [], _∷_, _++_}
-use Prim.Native.Nat.{ℕ, zero, suc}
+use Prim.Native.Nat.{ℕ, zero, suc, _+_}
+use native.Mathlib.Nat.{add-zero, add-suc, suc-add}
 use lib.Ieee.{Float, ofBits}
 use lib.ListN.{take, drop, replicate, take-append-drop}
 use Rattle.samples.specs.Binary32.{+0, finite}
@@ -47,3 +48,12 @@ finite-cut n xs e = split-and _ _ (sym (finite-append (take n xs) (drop n xs)) �
 pub finite-all : (k : ℕ) (xs : List Float) → allFinite xs ≡ allFrom (λ i x. finite x) k xs
 finite-all k [] = refl
 finite-all k (x ∷ xs) = finite-cons x xs ∙ ap (λ (b : Bool). finite x && b) (finite-all (suc k) xs)
+
+-- a search passes over a part that is finite
+pub finite-skip : (n k : ℕ) (xs : List Float) → allFinite (take n xs) ≡ true → firstFrom k xs ≡ firstFrom (k + n) (drop n xs)
+finite-skip zero k xs e = rw add-zero refl
+finite-skip (suc n) k [] e = refl
+finite-skip (suc n) k (x ∷ xs) e =
+    let p = split-and (finite x) (allFinite (take n xs)) (sym (finite-cons x (take n xs)) ∙ e) in
+    let q : suc k + n ≡ k + suc n = suc-add k n ∙ sym (add-suc k n) in
+    ap (λ (b : Bool). cond b (firstFrom (suc k) xs) (At k)) (p .0) ∙ finite-skip n (suc k) xs (p .1) ∙ ap (λ (m : ℕ). firstFrom m (drop n xs)) q

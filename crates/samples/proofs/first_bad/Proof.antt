@@ -1,19 +1,20 @@
 -- `samples::first_bad` meets its contract. The invariant of both loops: nothing is found yet, and the search from i on finds what the
--- search from the start finds. Assumes nothing.
+-- search from the start finds; a row that is finite is passed over. Assumes nothing.
 use borrow.Author.Needs.{needs}
 use borrow.Author.Tests.{not-true, not-false}
 use native.Mathlib.Omega.{arith}
-use mathlib.Core.Path.{_≡_, sym, _∙_}
+use mathlib.Core.Path.{_≡_, sym, ap, _∙_}
 use mathlib.Core.Bool.{true, false}
 use mathlib.Core.List.{List}
 use Prim.Native.Nat.{ℕ, _+_, _≤_, _<_, _-_}
 use native.Mathlib.Numerals.{add-one}
-use lib.ListN.{length, getD, drop, drop-of-length-le}
-use lib.Seq.{drop-cons}
+use lib.ListN.{length, getD, take, drop, drop-of-length-le}
+use lib.Seq.{drop-cons, drop-drop}
 use lib.Ieee.{Float, nan}
 use Rattle.samples.specs.Binary32.{finite}
-use Rattle.samples.specs.Search.{firstFrom, firstBad}
+use Rattle.samples.specs.Search.{firstFrom, firstBad, allFinite}
 use Rattle.samples.specs.declared.Found.the-variants.{At, Nothing}
+use Rattle.samples.proofs.Finite.{finite-skip}
 use Rattle.samples.proofs.first_bad.Statement.{statement}
 use Rattle.samples.proofs.first_bad.Tie as tie
 
@@ -23,6 +24,14 @@ module _ (xs : List Float) (i : ℕ) (h : i < length xs) (so-far : firstFrom i (
 
   good-here : finite (getD xs i nan) ≡ true → firstFrom (i + 1) (drop (i + 1) xs) ≡ firstBad xs
   good-here b = rw add-one (sym (rw (drop-cons xs i nan h, b)) ∙ so-far)
+
+passed : (xs : List Float) (i j : ℕ) → i ≤ j → firstFrom i (drop i xs) ≡ firstBad xs → allFinite (take (j - i) (drop i xs)) ≡ true
+    → firstFrom j (drop j xs) ≡ firstBad xs
+passed xs i j h so-far b =
+    let m : i + (j - i) ≡ j = omega arith in
+    let s : firstFrom (i + (j - i)) (drop (j - i) (drop i xs)) ≡ firstFrom j (drop j xs) =
+    ap (firstFrom (i + (j - i))) (drop-drop (j - i) i xs) ∙ ap (λ (k : ℕ). firstFrom k (drop k xs)) m in
+    sym (finite-skip (j - i) i (drop i xs) b ∙ s) ∙ so-far
 
 nothing-left : (xs : List Float) (i : ℕ) → length xs ≤ i → firstFrom i (drop i xs) ≡ firstBad xs → Nothing ≡ firstBad xs
 nothing-left xs i h so-far = sym (rw (drop-of-length-le xs h)) ∙ so-far
@@ -40,47 +49,60 @@ Inv-rows rows row found₀ i₀ found i = (i ≤ length rows) × (found ≡ Noth
 abbrev μ-rows : tie.MeasureT-rows
 μ-rows rows row found₀ i₀ found i = length rows - i
 
--- src/lib.rt:146:5
 rows-holds : tie.Need-rows-holds Inv-loop μ-loop Inv-rows μ-rows
 rows-holds c = search needs
 
--- src/lib.rt:147:13
 row-end-requires : tie.Need-row-end-requires Inv-loop μ-loop Inv-rows μ-rows
 row-end-requires c κs = search needs
 
--- src/lib.rt:148:9
-loop-holds : tie.Need-loop-holds Inv-loop μ-loop Inv-rows μ-rows
-loop-holds c = search needs
+mul-row-finite : tie.Need-mul-row-finite Inv-loop μ-loop Inv-rows μ-rows
+mul-row-finite c = search needs
 
--- src/lib.rt:146:5
+sub-row-finite : tie.Need-sub-row-finite Inv-loop μ-loop Inv-rows μ-rows
+sub-row-finite c = search needs
+
+part-row-finite-start : tie.Need-part-row-finite-start Inv-loop μ-loop Inv-rows μ-rows
+part-row-finite-start c = search needs
+
+part-row-finite-end : tie.Need-part-row-finite-end Inv-loop μ-loop Inv-rows μ-rows
+part-row-finite-end c = search needs
+
+row-finite-requires : tie.Need-row-finite-requires Inv-loop μ-loop Inv-rows μ-rows
+row-finite-requires c κs = search needs
+
 rows-less : tie.Need-rows-less Inv-loop μ-loop Inv-rows μ-rows
 rows-less c = search needs
 
--- src/lib.rt:146:5
 rows-again : tie.Need-rows-again Inv-loop μ-loop Inv-rows μ-rows
-rows-again c = search needs
+rows-again c =
+    let r = c .before .before .before .before .before in
+    let e = r .rows .inv in
+    (omega arith, e .1, passed _ (r .rows .i) _ (omega arith) (e .2) (sym (c .before .row-finite .ensures) ∙ c .if1 .taken))
 
--- src/lib.rt:149:27
+loop-holds : tie.Need-loop-holds Inv-loop μ-loop Inv-rows μ-rows
+loop-holds c = search needs
+
+rows-less-2 : tie.Need-rows-less-2 Inv-loop μ-loop Inv-rows μ-rows
+rows-less-2 c = search needs
+
+rows-again-2 : tie.Need-rows-again-2 Inv-loop μ-loop Inv-rows μ-rows
+rows-again-2 c = search needs
+
 mul-is-finite : tie.Need-mul-is-finite Inv-loop μ-loop Inv-rows μ-rows
 mul-is-finite c = search needs
 
--- src/lib.rt:149:27
 shared-slice-read-is-finite : tie.Need-shared-slice-read-is-finite Inv-loop μ-loop Inv-rows μ-rows
 shared-slice-read-is-finite c = search needs
 
--- src/lib.rt:149:17
 is-finite-requires : tie.Need-is-finite-requires Inv-loop μ-loop Inv-rows μ-rows
 is-finite-requires c κs = search needs
 
--- src/lib.rt:153:13
 add-i : tie.Need-add-i Inv-loop μ-loop Inv-rows μ-rows
 add-i c = search needs
 
--- src/lib.rt:148:9
 loop-less : tie.Need-loop-less Inv-loop μ-loop Inv-rows μ-rows
 loop-less c = search needs
 
--- src/lib.rt:148:9
 loop-again : tie.Need-loop-again Inv-loop μ-loop Inv-rows μ-rows
 loop-again c =
     let l = c .before .before .before .before .loop in
@@ -90,20 +112,18 @@ loop-again c =
       e .2,
       e .3,
       e .4,
-      good-here _ (l .i) (omega arith) (e .5) (sym (c .before .is-finite .ensures) ∙ not-false _ (c .if1 .left)),
+      good-here _ (l .i) (omega arith) (e .5) (sym (c .before .is-finite .ensures) ∙ not-false _ (c .if2 .left)),
     )
 
--- src/lib.rt:141:1
 returns : tie.Need-returns Inv-loop μ-loop Inv-rows μ-rows
 returns c =
     let e = c .before .rows .inv in
     e .1 ∙ nothing-left _ (c .before .rows .i) (omega arith) (e .2)
 
--- src/lib.rt:141:1
 returns-2 : tie.Need-returns-2 Inv-loop μ-loop Inv-rows μ-rows
 returns-2 c =
     let l = c .before .before .before .before .loop in
-    bad-here _ (l .i) (omega arith) (l .inv .5) (sym (c .before .is-finite .ensures) ∙ not-true _ (c .if1 .taken))
+    bad-here _ (l .i) (omega arith) (l .inv .5) (sym (c .before .is-finite .ensures) ∙ not-true _ (c .if2 .taken))
 
 pub first-bad-spec : {M : Type 1} → statement M
 first-bad-spec =
@@ -115,9 +135,16 @@ first-bad-spec =
     μ-rows
     rows-holds
     row-end-requires
-    loop-holds
+    mul-row-finite
+    sub-row-finite
+    part-row-finite-start
+    part-row-finite-end
+    row-finite-requires
     rows-less
     rows-again
+    loop-holds
+    rows-less-2
+    rows-again-2
     mul-is-finite
     shared-slice-read-is-finite
     is-finite-requires
