@@ -1,14 +1,15 @@
--- Lists that are joined, and a row over a list: what stands in it, before it and after it, and a second row over it or right after it.
+-- Lists that are joined, and a row over a list: what stands in it, before it and after it, a second row over it or right after it, and a
+-- store before it.
 -- Assumes nothing.
 use mathlib.Core.Path.{_≡_, refl, sym, ap, _∙_}
 use mathlib.Core.Logic.{⊎-elim}
 use mathlib.Core.List.{List, [], _∷_, _++_, append-assoc}
-use Prim.Native.Nat.{ℕ, zero, suc, _+_, _*_, _≤_, _<_}
+use Prim.Native.Nat.{ℕ, zero, suc, _+_, _-_, _*_, _≤_, _<_}
 use native.Mathlib.Nat.{add-zero, add-assoc, suc-mul, zero-mul, mul-one, not-suc-le-zero}
 use native.Mathlib.Numerals.{add-one}
 use native.Mathlib.Omega.{arith}
 use lib.ListN.{length, getD, take, drop, set, length-append, take-append-drop, List·getD-append}
-use lib.Seq.{set-split, take-at, drop-at, getD-at, getD-take, getD-drop, drop-drop, length-take-le}
+use lib.Seq.{set-split, set-append-left, take-set-lt, drop-set-lt, take-at, drop-at, getD-at, getD-take, getD-drop, drop-drop, length-take-le}
 use Rattle.samples.specs.Lists.{over}
 use Rattle.samples.proofs.Turns.{over-before, lt-or-ge}
 use Rattle.hadamard.specs.Mix.{joined, each}
@@ -58,17 +59,18 @@ module _ {A : Type 0} (a : ℕ) (p w : List A) (fits : a + length p ≤ length w
   after : drop (a + length p) (over a p w) ≡ drop (a + length p) w
   after = sym (drop-drop (length p) a (over a p w)) ∙ rw from (drop-at p (drop (a + length p) w) (length p) refl)
 
-  -- what stands before the row, in it, and right after it
+  -- what stands before the row, in it, and after it
   pub before-at : (k : ℕ) (z : A) → k < a → getD (over a p w) k z ≡ getD w k z
   before-at k z h = rw (← getD-take a (over a p w) k z h, over-before a p w (omega arith)) (getD-take a w k z h)
 
   pub inside-at : (k : ℕ) (z : A) → k < length p → getD (over a p w) (a + k) z ≡ getD p k z
   inside-at k z h = rw (← getD-drop a (over a p w) k z, from) (List·getD-append p (drop (a + length p) w) z k h)
 
-  pub after-at : (z : A) → getD (over a p w) (a + length p) z ≡ getD w (a + length p) z
-  after-at z =
-      let first = ap (λ (l : List A). getD l 0 z) after in
-      rw (getD-drop (a + length p) (over a p w), getD-drop (a + length p) w, add-zero) at first
+  pub after-at : (k : ℕ) (z : A) → a + length p ≤ k → getD (over a p w) k z ≡ getD w k z
+  after-at k z h =
+      let past : a + length p + (k - (a + length p)) ≡ k = omega arith in
+      let there = ap (λ (l : List A). getD l (k - (a + length p)) z) after in
+      rw (getD-drop (a + length p) (over a p w), getD-drop (a + length p) w, past) at there
 
   -- q in its place
   pub over-again : (q : List A) → length q ≡ length p → over a q (over a p w) ≡ over a q w
@@ -92,3 +94,9 @@ over-none a w = rw add-zero (sym (take-append-drop a w))
 pub over-one : {A : Type 0} (i : ℕ) (v : A) (w : List A) → i < length w → set w i v ≡ over i (v ∷ []) w
 unfolding over
 over-one i v w h = rw add-one (set-split w i v h)
+
+pub over-set : {A : Type 0} (a : ℕ) (p : List A) (i : ℕ) (v : A) (w : List A) → i < a → a ≤ length w → set (over a p w) i v ≡ over a p (set w i v)
+unfolding over
+over-set a p i v w h fits =
+    let front = length-take-le a w fits in
+    rw (take-set-lt a w i v h, drop-set-lt (a + length p) w i v (omega arith)) (set-append-left (take a w) (p ++ drop (a + length p) w) i v (omega arith))

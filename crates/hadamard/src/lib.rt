@@ -6,14 +6,14 @@ use samples::and;
 use samples::is_accepted;
 use samples::need;
 ghost use mathlib.Core.Path.{_≡_};
-ghost use Prim.Native.Nat.{_+_, _*_, _/_, _<_, _≤_};
+ghost use Prim.Native.Nat.{_+_, _*_, _/_, _%_, _<_, _≤_};
 ghost use lib.ListN.{length};
 ghost use Rattle.samples.specs.Binary32.{_⊕_, _⊖_, _⊗_};
 ghost use Rattle.samples.specs.Answers.{accept};
 ghost use Rattle.samples.specs.Lists.{over};
 ghost use Rattle.hadamard.specs.Mix.{minus, plusMinus, mixAt, mixed, quarter, judgedSample};
 ghost use Rattle.hadamard.specs.Rows.{mixedRow, mixedRows, judgedRows, rowsMixed};
-ghost use Rattle.hadamard.specs.Passes.{laid, pass, summed};
+ghost use Rattle.hadamard.specs.Passes.{laid, pass, crossed, summed, summedTwo, rowSum, mixedAt};
 
 // Whether row r of the mix takes column c with a minus.
 pub fn minus(r: usize, c: usize) -> bool
@@ -86,8 +86,20 @@ fn plus_minus(m: bool, sum: f32, x: f32) -> f32
     if m { sum - x } else { sum + x }
 }
 
-// Mixes the rows of n lines, which w begins with, into the n rows after them, times k.
+// Mixes the rows of n lines, which w begins with, into the n rows after them, times k: two rows at a time where n is even.
 fn mix_all(w: &mut [f32], n: usize, f: usize, k: f32)
+    requires { ⌜ n * f + n * f ≤ length (now w) ⌝ }
+    ensures { λ _. ⌜ now (w .exit) ≡ over (n * f) (mixedRows n f k (now (w .entry))) (now (w .entry)) ⌝ }
+{
+    if n % 2 == 0 {
+        mix_twos(w, n, f, k);
+    } else {
+        mix_ones(w, n, f, k);
+    }
+}
+
+// Mixes as `mix_all` does, one row after the other.
+fn mix_ones(w: &mut [f32], n: usize, f: usize, k: f32)
     requires { ⌜ n * f + n * f ≤ length (now w) ⌝ }
     ensures { λ _. ⌜ now (w .exit) ≡ over (n * f) (mixedRows n f k (now (w .entry))) (now (w .entry)) ⌝ }
 {
@@ -100,20 +112,83 @@ fn mix_all(w: &mut [f32], n: usize, f: usize, k: f32)
     }
 }
 
+// Mixes as `mix_all` does, two rows at a time.
+fn mix_twos(w: &mut [f32], n: usize, f: usize, k: f32)
+    requires { ⌜ (n % 2 ≡ 0) × (n * f + n * f ≤ length (now w)) ⌝ }
+    ensures { λ _. ⌜ now (w .exit) ≡ over (n * f) (mixedRows n f k (now (w .entry))) (now (w .entry)) ⌝ }
+{
+    let mut d = n * f;
+    let mut r = 0usize;
+    while r < n {
+        let e = d + f;
+        mix_two(w, n, f, k, r, d, e);
+        d = e + f;
+        r += 2;
+    }
+}
+
 // Mixes the rows of n lines into row r of the mix, at d, times k.
 fn mix_row(w: &mut [f32], n: usize, f: usize, k: f32, r: usize, d: usize)
     requires { ⌜ (r < n) × (n * f ≤ d) × (d + f ≤ length (now w)) ⌝ }
-    ensures { λ _. ⌜ now (w .exit) ≡ over d (mixedRow n f k (now (w .entry)) r) (now (w .entry)) ⌝ }
+    ensures { λ _. ⌜ now (w .exit) ≡ mixedAt n f k r d (now (w .entry)) ⌝ }
+{
+    sum_row(w, n, f, r, d);
+    scale_row(w, d, f, k);
+}
+
+// Mixes the rows of n lines into row r of the mix, at d, and the row after it, at e, times k. r and n are even.
+fn mix_two(w: &mut [f32], n: usize, f: usize, k: f32, r: usize, d: usize, e: usize)
+    requires { ⌜ (n % 2 ≡ 0) × (r % 2 ≡ 0) × (r < n) × (n * f ≤ d) × (d + f ≤ e) × (e + f ≤ length (now w)) ⌝ }
+    ensures { λ _. ⌜ now (w .exit) ≡ mixedAt n f k (r + 1) e (mixedAt n f k r d (now (w .entry))) ⌝ }
+{
+    sum_row(w, 2, f, r, d);
+    sum_row(w, 2, f, r + 1, e);
+    cross_rows(w, n - 2, f, r, d, e);
+    scale_row(w, d, f, k);
+    scale_row(w, e, f, k);
+}
+
+// Sums the first n rows into the row at d, by the signs of row r.
+fn sum_row(w: &mut [f32], n: usize, f: usize, r: usize, d: usize)
+    requires { ⌜ (0 < n) × (n * f ≤ d) × (d + f ≤ length (now w)) ⌝ }
+    ensures { λ _. ⌜ now (w .exit) ≡ laid d f (rowSum r n f (now (w .entry))) (now (w .entry)) ⌝ }
 {
     copy_row(w, d, 0, f);
     sum_rows(w, n - 1, f, r, d);
-    scale_row(w, d, f, k);
+}
+
+// Adds the rows 2 to `more` + 1, two a pass, to the row at d by the signs of row r, and to the row at e by those of row r + 1.
+fn cross_rows(w: &mut [f32], more: usize, f: usize, r: usize, d: usize, e: usize)
+    requires { ⌜ (more % 2 ≡ 0) × (r % 2 ≡ 0) × (f + f + more * f ≤ d) × (d + f ≤ e) × (e + f ≤ length (now w)) ⌝ }
+    ensures { λ _. ⌜ now (w .exit) ≡ summedTwo r d e f more (now (w .entry)) ⌝ }
+{
+    let mut s = f;
+    let mut c = 0usize;
+    while c < more {
+        let a = s + f;
+        s = a + f;
+        c += 2;
+        cross_row(w, minus(r, c), d, e, a, s, f);
+    }
+}
+
+// Adds the rows at a and b to the row at d, both with a minus or without, and to the row at e, that at b with the other sign.
+fn cross_row(w: &mut [f32], m: bool, d: usize, e: usize, a: usize, b: usize, f: usize)
+    requires { ⌜ (a + f ≤ d) × (b + f ≤ d) × (d + f ≤ e) × (e + f ≤ length (now w)) ⌝ }
+    ensures { λ _. ⌜ now (w .exit) ≡ crossed m d e a b f (now (w .entry)) ⌝ }
+{
+    for t in 0..f {
+        let x = w[a + t];
+        let y = w[b + t];
+        w[d + t] = plus_minus(m, plus_minus(m, w[d + t], x), y);
+        w[e + t] = plus_minus(!m, plus_minus(m, w[e + t], x), y);
+    }
 }
 
 // Adds the rows 1 to `last` to the row at d, by the signs of row r.
 fn sum_rows(w: &mut [f32], last: usize, f: usize, r: usize, d: usize)
     requires { ⌜ (last * f + f ≤ d) × (d + f ≤ length (now w)) ⌝ }
-    ensures { λ _. ⌜ now (w .exit) ≡ laid d f (summed r d f last (now (w .entry))) (now (w .entry)) ⌝ }
+    ensures { λ _. ⌜ now (w .exit) ≡ laid d f (summed r 1 f d f last (now (w .entry))) (now (w .entry)) ⌝ }
 {
     let mut s = 0usize;
     let mut c = 0usize;

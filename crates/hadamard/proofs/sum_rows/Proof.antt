@@ -13,7 +13,7 @@ use Rattle.hadamard.proofs.sum_rows.Statement.{statement}
 use Rattle.hadamard.proofs.sum_rows.Tie as tie
 
 abbrev Inv-loop : tie.InvT-loop
-Inv-loop w₀ last f r d s₀ c₀ w s c = (c ≤ last) × (s ≡ c * f) × (length w ≡ length w₀) × (w ≡ laid d f (summed r d f c w₀) w₀)
+Inv-loop w₀ last f r d s₀ c₀ w s c = (c ≤ last) × (s ≡ c * f) × (length w ≡ length w₀) × (w ≡ laid d f (summed r 1 f d f c w₀) w₀)
 
 abbrev μ-loop : tie.MeasureT-loop
 μ-loop w₀ last f r d s₀ c₀ w s c = last - c
@@ -21,7 +21,7 @@ abbrev μ-loop : tie.MeasureT-loop
 loop-holds : tie.Need-loop-holds Inv-loop μ-loop
 loop-holds c =
     let a = c .before .args in
-    (search needs, sym (zero-mul (a .f)), search needs, summed-none (a .r) (a .d) (a .f) (a .w .now) (omega arith))
+    (search needs, sym (zero-mul (a .f)), search needs, summed-none (a .r) 1 (a .f) (a .d) (a .f) (a .w .now) (omega arith))
 
 add-s : tie.Need-add-s Inv-loop μ-loop
 add-s c =

@@ -1,4 +1,4 @@
--- `hadamard::mix_all` meets its contract. The invariant: the first r mixed rows are done, all else is as it was. Assumes nothing.
+-- `hadamard::mix_ones` meets its contract. The invariant: the first r mixed rows are done, all else is as it was. Assumes nothing.
 use borrow.Author.Needs.{needs}
 use native.Mathlib.Omega.{arith}
 use mathlib.Core.Path.{_≡_}
@@ -12,8 +12,8 @@ use Rattle.hadamard.specs.Mix.{joined}
 use Rattle.hadamard.specs.Rows.{mixedRow, mixedRows}
 use Rattle.hadamard.proofs.Overs.{over-none}
 use Rattle.hadamard.proofs.Passes.{rows-more}
-use Rattle.hadamard.proofs.mix_all.Statement.{statement}
-use Rattle.hadamard.proofs.mix_all.Tie as tie
+use Rattle.hadamard.proofs.mix_ones.Statement.{statement}
+use Rattle.hadamard.proofs.mix_ones.Tie as tie
 
 abbrev Inv-loop : tie.InvT-loop
 Inv-loop w₀ n f k d₀ r₀ w d r = (r ≤ n) × (d ≡ n * f + r * f) × (length w ≡ length w₀) × (w ≡ over (n * f) (joined r (mixedRow n f k w₀)) w₀)
@@ -64,8 +64,8 @@ returns c =
     let e : l .r ≡ c .before .before .before .args .n = omega arith in
     rw e at (l .inv .3)
 
-pub mix-all-spec : {M : Type 1} → statement M
-mix-all-spec =
+pub mix-ones-spec : {M : Type 1} → statement M
+mix-ones-spec =
     tie.close
     (tie.spec
     Inv-loop
