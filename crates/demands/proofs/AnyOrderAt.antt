@@ -9,6 +9,7 @@ use lib.Ieee.{Float}
 use lib.IntN.{ℤ}
 use lib.ListN.{length, drop, replicate, length-take, length-drop, length-replicate}
 use Rattle.samples.specs.Binary32.{+0}
+use Rattle.samples.specs.Lists.{row}
 use Rattle.iir.specs.declared.Filter.{Filter}
 use Rattle.hadamard.specs.Rows.{mixedRows}
 use Rattle.hadamard.proofs.Laws.{rows-length}
@@ -19,7 +20,7 @@ use Rattle.frame.specs.Frame.{Frame, frameOf, frameFrom, passesIn, lineRows}
 use Rattle.frame.proofs.RowLaws.{Held, length-readRows, length-bandEnds}
 use Rattle.frame.proofs.FrameLaws.{put-beside, out-long}
 use Rattle.turns.specs.Marks.{mixMark, lineMark, outputMark}
-use Rattle.rows.specs.Rows.{row, Rows, rowsOf, joined}
+use Rattle.rows.specs.Rows.{Rows, rowsOf, joined}
 use Rattle.demands.specs.Jobs.{Memory}
 use Rattle.demands.proofs.LineRings.{row-long, lines-held}
 use Rattle.demands.proofs.AnyOrderRows.{stacked, length-stacked}

@@ -9,6 +9,7 @@ use native.Mathlib.Omega.{arith}
 use lib.Ieee.{Float}
 use lib.ListN.{length, getD, take, drop, length-append, length-take, length-drop}
 use lib.Seq.{take-at, drop-at}
+use Rattle.samples.specs.Lists.{row}
 use Rattle.delay.specs.declared.Cursors.{Cursors}
 use Rattle.hadamard.specs.Rows.{mixedRows}
 use Rattle.hadamard.proofs.Laws.{rows-length}
@@ -21,7 +22,6 @@ use Rattle.frame.specs.Passes.{passEnd}
 use Rattle.frame.specs.Frame.{stretch, stageAt, ringsOf, lineRows, outputRow}
 use Rattle.frame.proofs.RowLaws.{byBands, peel, length-plus, length-bandRows}
 use Rattle.frame.proofs.Stages.{pass-rings}
-use Rattle.rows.specs.Rows.{row}
 use Rattle.demands.proofs.AnyOrderRows.{getD-row}
 
 -- ---- rows of lines

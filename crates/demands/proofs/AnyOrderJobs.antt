@@ -10,7 +10,7 @@ use lib.Ieee.{Float}
 use lib.ListN.{length, getD, take, drop, set, replicate, length-drop, getD-replicate, replicate-append-replicate, take-append-drop}
 use lib.Seq.{getD-drop, getD-append-add}
 use Rattle.samples.specs.Binary32.{+0}
-use Rattle.samples.specs.Lists.{over}
+use Rattle.samples.specs.Lists.{over, row, setRow}
 use Rattle.iir.specs.declared.Bands.{Bands}
 use Rattle.iir.specs.declared.Filter.{Filter}
 use Rattle.iir.specs.Runs.{bandsOut, bandsEnd}
@@ -21,7 +21,7 @@ use Rattle.unit.specs.Sizes.{lineLengths, jobsLen}
 use Rattle.frame.specs.Lines.{noFilter, three, threeOf, plus}
 use Rattle.frame.specs.Frame.{Frame, OutputRow, frameFrom, passesIn, lineRows, newFilters}
 use Rattle.turns.specs.Marks.{mixMark, lineMark, outputMark, allDone}
-use Rattle.rows.specs.Rows.{row, setRow, Rows, rowsOf, joined}
+use Rattle.rows.specs.Rows.{Rows, rowsOf, joined}
 use Rattle.rows.specs.Parts.{lineIn, lineLaid, lineEnds, outputIn, outputLaid, outputEnds}
 use Rattle.jobs.specs.Play.{openLaid, openWork}
 use Rattle.jobs.specs.Steps.{readRow, readWork, mixLaid, mixWork, lineWork, lineFilters, outputWork, outputFilters}

@@ -13,6 +13,7 @@ use lib.IntN.{pos}
 use lib.Ieee.{Float}
 use lib.ListN.{length, take, drop, replicate, length-append, length-take, length-replicate, length-set, getD-replicate, take-append-drop}
 use lib.Seq.{take-at}
+use Rattle.samples.specs.Lists.{row}
 use Rattle.samples.specs.declared.Answer.{Answer}
 use Rattle.samples.specs.declared.Answer.the-variants.{Accepted}
 use Rattle.samples.specs.Answers.{accept, accepted, orElse}
@@ -29,7 +30,7 @@ use Rattle.frame.specs.Frame.{frameFrom, newFilters}
 use Rattle.frame.specs.Settle.{nineOf, settled, settledIn, allMoved, putRows}
 use Rattle.reverb.specs.Whole.{after as played, counted, wholeAnswer, wholeUnit, wholeStore}
 use Rattle.turns.specs.Marks.{marked, mixMark, lineMark, outputMark}
-use Rattle.rows.specs.Rows.{row, rowsOf}
+use Rattle.rows.specs.Rows.{rowsOf}
 use Rattle.turns.specs.Turns.{judgedClose}
 use Rattle.jobs.specs.Play.{Play, apply, tail, countFor, frameFor, wholeDue, opened}
 use Rattle.jobs.specs.Steps.{markedUnit, readRow}

@@ -7,6 +7,7 @@ use native.Mathlib.Omega.{arith}
 use lib.Ieee.{Float}
 use lib.ListN.{length, getD, take, drop, replicate, length-take, length-drop, length-replicate, replicate-append-replicate}
 use lib.Seq.{take-at, drop-at, take-all}
+use Rattle.samples.specs.Lists.{row}
 use Rattle.delay.specs.declared.Cursors.{Cursors}
 use Rattle.delay.specs.Calls.{both}
 use Rattle.delay.specs.Ring.{read, write}
@@ -16,7 +17,6 @@ use Rattle.unit.specs.Sizes.{lengthsFrom, lineLengths, total}
 use Rattle.frame.specs.Lines.{readRows}
 use Rattle.frame.specs.Settle.{putRows, movedBy, allMoved}
 use Rattle.frame.proofs.RowLaws.{Held, total-more}
-use Rattle.rows.specs.Rows.{row}
 use Rattle.lines.specs.Rings.{ringAt}
 
 -- the line after i of those from j on is line i of those from j + 1 on

@@ -8,6 +8,7 @@ use native.Mathlib.Omega.{arith}
 use lib.Ieee.{Float}
 use lib.ListN.{length, getD, take, drop, length-append, length-take, length-drop}
 use lib.Seq.{take-at, drop-at}
+use Rattle.samples.specs.Lists.{row, setRow}
 use Rattle.samples.specs.declared.Samples.{Samples}
 use Rattle.delay.specs.declared.Cursors.{Cursors}
 use Rattle.delay.specs.Calls.{both}
@@ -18,7 +19,7 @@ use Rattle.unit.specs.Model.{Model}
 use Rattle.unit.specs.Sizes.{lineLengths, storeLen, workLen}
 use Rattle.frame.specs.Settle.{putRows, movedBy, allMoved}
 use Rattle.frame.proofs.RowLaws.{Held}
-use Rattle.rows.specs.Rows.{row, setRow, Rows, rowsOf}
+use Rattle.rows.specs.Rows.{Rows, rowsOf}
 use Rattle.lines.specs.Rings.{ringAt}
 use Rattle.jobs.specs.Steps.{readRow, readWork}
 use Rattle.demands.proofs.Lent.{Lent, cursors, within}

@@ -7,6 +7,7 @@ use mathlib.Core.Logic.{_⊎_}
 use lib.Dec.{eqb}
 use lib.Ieee.{Float}
 use lib.ListN.{length, getD, take, replicate}
+use Rattle.samples.specs.Lists.{row}
 use Rattle.samples.specs.declared.Answer.the-variants.{Accepted}
 use Rattle.samples.specs.Answers.{accept}
 use Rattle.samples.specs.Binary32.{+0}
@@ -15,7 +16,7 @@ use Rattle.unit.specs.Hall.{Hall}
 use Rattle.unit.specs.Model.{Model}
 use Rattle.unit.specs.Judges.{judgedFresh}
 use Rattle.unit.specs.Sizes.{Sized}
-use Rattle.rows.specs.Rows.{row, rowsOf}
+use Rattle.rows.specs.Rows.{rowsOf}
 use Rattle.jobs.specs.Play.{Play, frameFor}
 use Rattle.demands.specs.Jobs.{Memory, Job, readJob, mixJob, lineJob, outputJob, jobWork}
 use Rattle.demands.specs.Calls.{Call, reset, whole, start, job, close, abandon, answer, after}

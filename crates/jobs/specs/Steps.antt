@@ -6,6 +6,7 @@ use mathlib.Core.Bool.{true}
 use mathlib.Core.List.{List}
 use lib.Ieee.{Float}
 use lib.ListN.{getD, set}
+use Rattle.samples.specs.Lists.{setRow}
 use Rattle.delay.specs.Calls.{both}
 use Rattle.delay.specs.Ring.{read}
 use Rattle.hadamard.specs.Rows.{mixedRows}
@@ -13,7 +14,7 @@ use Rattle.iir.specs.declared.Filter.{Filter}
 use Rattle.unit.specs.Hall.{Hall}
 use Rattle.unit.specs.Model.{Model}
 use Rattle.unit.specs.Sizes.{lineLengths}
-use Rattle.rows.specs.Rows.{setRow, rowsOf, laid}
+use Rattle.rows.specs.Rows.{rowsOf, laid}
 use Rattle.rows.specs.Parts.{lineLaid, lineEnds, outputLaid, outputEnds}
 use Rattle.lines.specs.Rings.{ringAt}
 use Rattle.jobs.specs.Held.{holding}

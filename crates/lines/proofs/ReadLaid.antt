@@ -12,6 +12,7 @@ use lib.Seq.{drop-drop, length-take-le}
 use lib.Dec.{ltb, eqb}
 use borrow.Author.Tests.{ltb-true, eqb-true}
 use borrow.Rule.Slice.PartMut.{putMid}
+use Rattle.samples.specs.Lists.{row}
 use Rattle.samples.proofs.Laws.{split-and}
 use Rattle.samples.proofs.Turns.{lent}
 use Rattle.delay.specs.declared.Cursors.{Cursors}
@@ -25,7 +26,7 @@ use Rattle.unit.specs.Sizes.{lineLengths, total, storeLen}
 use Rattle.unit.specs.Range.{linesOk}
 use Rattle.frame.proofs.RowLaws.{total-more}
 use Rattle.rows.specs.Fits.{workFor, WorkFits}
-use Rattle.rows.specs.Rows.{row, rowsOf}
+use Rattle.rows.specs.Rows.{rowsOf}
 use Rattle.rows.proofs.Stretches.{come-back, lent-long}
 use Rattle.rows.proofs.RowFits.{row-in}
 use Rattle.rows.proofs.RowJoins.{total-next, total-front}

@@ -4,6 +4,7 @@ use mathlib.Core.Bool.{Bool, _&&_, cond}
 use mathlib.Core.List.{List}
 use lib.Dec.{ltb, eqb}
 use lib.Ieee.{Float}
+use Rattle.samples.specs.Lists.{row, setRow}
 use Rattle.samples.specs.Search.{allFinite}
 use Rattle.delay.specs.declared.Cursors.{Cursors}
 use Rattle.delay.specs.Calls.{getOut}
@@ -11,7 +12,7 @@ use Rattle.iir.specs.declared.Filter.{Filter}
 use Rattle.unit.specs.Model.{Model}
 use Rattle.unit.specs.Sizes.{lineLengths, storeLen}
 use Rattle.frame.specs.Settle.{filtersFinite}
-use Rattle.rows.specs.Rows.{row, setRow, Rows, rowsOf, laid}
+use Rattle.rows.specs.Rows.{Rows, rowsOf, laid}
 use Rattle.rows.specs.Fits.{workFor}
 use Rattle.lines.specs.Rings.{ringAt}
 

@@ -8,7 +8,7 @@ use lib.Ieee.{Float}
 use lib.ListN.{length, take, drop, length-drop, take-append-drop}
 use lib.Seq.{drop-drop, length-take-le}
 use borrow.Rule.Slice.PartMut.{putMid}
-use Rattle.samples.specs.Lists.{over}
+use Rattle.samples.specs.Lists.{over, row, setRow}
 use Rattle.samples.proofs.Turns.{lent, over-length, over-row, over-before}
 use Rattle.iir.specs.declared.Filter.{Filter}
 use Rattle.iir.specs.Runs.{bandsOut, bandsEnd}
@@ -18,7 +18,7 @@ use Rattle.frame.specs.Lines.{three, threeOf, plus}
 use Rattle.frame.specs.Steps.{addedFirst}
 use Rattle.frame.proofs.RowLaws.{length-plus}
 use Rattle.rows.specs.Fits.{WorkFits}
-use Rattle.rows.specs.Rows.{row, setRow, rowsOf, joined, laid}
+use Rattle.rows.specs.Rows.{rowsOf, joined, laid}
 use Rattle.rows.specs.Parts.{lineLaid, lineEnds}
 use Rattle.rows.proofs.Stretches.{in-front, lent-long, come-back, over-front, over-left, over-after, over-within}
 use Rattle.rows.proofs.RowAt as rows

@@ -6,8 +6,7 @@ use native.Mathlib.Nat.{zero-add, zero-mul, suc-mul, add-comm}
 use native.Mathlib.Omega.{arith}
 use lib.ListN.{length, take, drop}
 use lib.Seq.{take-add, drop-drop}
-use Rattle.samples.specs.Lists.{over}
-use Rattle.rows.specs.Rows.{row, setRow}
+use Rattle.samples.specs.Lists.{over, row, setRow}
 
 -- one row more
 pub next-row : (n f : ℕ) → suc n * f ≡ f + n * f

@@ -3,14 +3,14 @@ use Prim.Native.Nat.{ℕ, _*_}
 use mathlib.Core.Bool.{Bool, cond}
 use mathlib.Core.List.{List}
 use lib.Ieee.{Float}
-use Rattle.samples.specs.Lists.{over}
+use Rattle.samples.specs.Lists.{over, row, setRow}
 use Rattle.delay.specs.declared.Cursors.{Cursors}
 use Rattle.iir.specs.declared.Filter.{Filter}
 use Rattle.iir.specs.Runs.{bandsOut, bandsEnd}
 use Rattle.unit.specs.Model.{Model}
 use Rattle.frame.specs.Lines.{three, threeOf, plus}
 use Rattle.frame.specs.Frame.{OutputRow, outputRow}
-use Rattle.rows.specs.Rows.{row, setRow, Rows, rowsOf, laid}
+use Rattle.rows.specs.Rows.{Rows, rowsOf, laid}
 
 -- step 4 of line i, "bands and input, no put": its three filters are those from 3 i on, and a tail adds no input
 abbrev pub lineIn : ℕ → ℕ → Bool → List Filter → Rows → List Float

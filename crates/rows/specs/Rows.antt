@@ -1,18 +1,9 @@
--- How the work memory of a frame lies, and rows that lie one after the other.
-use Prim.Native.Nat.{ℕ, zero, suc, _+_, _*_}
+-- How the work memory of a frame lies.
+use Prim.Native.Nat.{ℕ, _+_, _*_}
 use mathlib.Core.List.{List, _++_}
 use lib.Ieee.{Float}
 use lib.ListN.{take, drop}
 use Rattle.unit.specs.Model.{Model}
-
--- row i of rows of f, and the rows with r in its place
-abbrev pub row : {A : Type 0} → ℕ → ℕ → List A → List A
-row f zero rows = take f rows
-row f (suc i) rows = row f i (drop f rows)
-
-unfoldable pub setRow : {A : Type 0} → ℕ → ℕ → List A → List A → List A
-setRow f zero r rows = r ++ drop f rows
-setRow f (suc i) r rows = take f rows ++ setRow f i r (drop f rows)
 
 -- the work memory: the input, the rows read, the rows mixed, which become those to put, the output and the allpass rings
 pub record Rows : Type 0 where
