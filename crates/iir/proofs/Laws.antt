@@ -10,7 +10,7 @@ use Rattle.samples.proofs.Laws.{split-and}
 use Rattle.iir.specs.declared.Filter.{Filter}
 use Rattle.iir.specs.declared.Bands.{Bands}
 use Rattle.iir.specs.Step.{fromCoefficients, outOf, step}
-use Rattle.iir.specs.Runs.{runOut, runEnd, bandsOut}
+use Rattle.iir.specs.Runs.{runOut, runEnd, bandsOut, bandsEnd}
 use Rattle.iir.specs.Nine.{nine, blankFilter}
 
 -- what comes out of a step is the `y1` that it leaves
@@ -39,6 +39,29 @@ run-append f (x ∷ xs) ys = ap (λ (l : List Float). outOf f x ∷ l) (run-appe
 pub end-append : (f : Filter) (xs ys : List Float) → runEnd f (xs ++ ys) ≡ runEnd (runEnd f xs) ys
 end-append f [] ys = refl
 end-append f (x ∷ xs) ys = end-append (step f x) xs ys
+
+-- and so of three bands
+module _ (b : Bands) (xs ys : List Float) where
+  pub bands-append : bandsOut b (xs ++ ys) ≡ bandsOut b xs ++ bandsOut (bandsEnd b xs) ys
+  unfolding bandsOut bandsEnd
+  bands-append =
+      let us = runOut (b .f0) xs in
+      let vs = runOut (runEnd (b .f0) xs) ys in
+      rw (run-append (b .f0) xs ys, run-append (b .f1) us vs) (run-append (b .f2) (runOut (b .f1) us) (runOut (runEnd (b .f1) us) vs))
+
+  pub bands-end-append : bandsEnd b (xs ++ ys) ≡ bandsEnd (bandsEnd b xs) ys
+  unfolding bandsOut bandsEnd
+  bands-end-append =
+      let us = runOut (b .f0) xs in
+      let vs = runOut (runEnd (b .f0) xs) ys in
+      rw (
+        run-append (b .f0) xs ys,
+        run-append (b .f1) us vs,
+        end-append (b .f0) xs ys,
+        end-append (b .f1) us vs,
+        end-append (b .f2) (runOut (b .f1) us) (runOut (runEnd (b .f1) us) vs),
+      )
+      refl
 
 -- ---- one sample of a run: g is f after x
 

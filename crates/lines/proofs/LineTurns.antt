@@ -9,7 +9,7 @@ use lib.Ieee.{Float}
 use lib.ListN.{length, getD, take, drop, length-append, length-drop, take-append-drop}
 use lib.Seq.{take-at, drop-drop}
 use borrow.Rule.Slice.PartMut.{putMid}
-use Rattle.samples.proofs.Turns.{all-done, lent}
+use Rattle.samples.proofs.Turns.{all-done, lent, over-done, over-left}
 use Rattle.delay.specs.declared.Cursors.{Cursors}
 use Rattle.delay.specs.Calls.{both, getOut, putRing}
 use Rattle.delay.specs.Ring.{read, write}
@@ -20,7 +20,7 @@ use Rattle.frame.specs.Settle.{putRows}
 use Rattle.frame.specs.Steps.{copied}
 use Rattle.frame.proofs.RowLaws.{total-more, copied-all, put-rings, length-putRows}
 use Rattle.lines.specs.Work.{Rings}
-use Rattle.rows.proofs.Stretches.{to-end, lent-long, come-back, kept-long, over-done, over-left}
+use Rattle.rows.proofs.Stretches.{to-end, lent-long, come-back, kept-long}
 use Rattle.rows.proofs.RowsLeft.{more, Left, row-fits, row-done, none-left}
 use Rattle.lines.proofs.LineLaws.{lines-held, here, moves}
 

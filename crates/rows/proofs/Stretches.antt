@@ -3,7 +3,7 @@ use mathlib.Core.Path.{_≡_, refl, sym, ap, _∙_}
 use mathlib.Core.List.{List, _++_, append-nil, append-assoc}
 use Prim.Native.Nat.{ℕ, _+_, _-_, _≤_}
 use native.Mathlib.Omega.{arith}
-use lib.ListN.{length, take, drop, length-append, length-take, length-drop, take-append-drop, drop-of-length-le}
+use lib.ListN.{length, take, drop, length-take, length-drop, take-append-drop, drop-of-length-le}
 use lib.Seq.{take-at, drop-at, take-add, take-take, drop-drop, length-take-le}
 use borrow.Rule.Slice.PartMut.{putMid}
 use Rattle.samples.specs.Lists.{over}
@@ -42,23 +42,8 @@ module _ {A : Type 0} (a : ℕ) (w : List A) where
       unfolding over
       come-back = rw e (back a k w ys)
 
-      module _ (h : a + k ≤ length w) where
-        pub kept-long : length (over a ys w) ≡ length w
-        kept-long = over-length a ys w (omega arith)
-
-        -- joined to the left
-        split : over a ys w ≡ take a w ++ ys ++ drop (a + k) w
-        unfolding over
-        split = rw (← e) (sym (append-assoc (take a w) ys (drop (a + length ys) w)))
-
-        done-long : length (take a w ++ ys) ≡ a + k
-        done-long = simp (length-append, length-take) (omega arith)
-
-        pub over-done : take (a + k) (over a ys w) ≡ take a w ++ ys
-        over-done = ap (take (a + k)) split ∙ take-at (take a w ++ ys) (drop (a + k) w) (a + k) done-long
-
-        pub over-left : drop (a + k) (over a ys w) ≡ drop (a + k) w
-        over-left = ap (drop (a + k)) split ∙ drop-at (take a w ++ ys) (drop (a + k) w) (a + k) done-long
+      pub kept-long : a + k ≤ length w → length (over a ys w) ≡ length w
+      kept-long h = over-length a ys w (omega arith)
 
 -- ys that lie within q
 module _ {A : Type 0} (ys : List A) where

@@ -10,11 +10,11 @@ use lib.Seq.{take-at, drop-at, drop-drop, take-all, take-add, take-take, length-
 use borrow.Rule.Slice.PartMut.{putMid, post-is}
 use Rattle.samples.specs.Binary32.{+0}
 use Rattle.samples.specs.Lists.{over}
-use Rattle.samples.proofs.Turns.{all-done}
+use Rattle.samples.proofs.Turns.{all-done, over-done, over-left}
 use Rattle.frame.specs.Lines.{plus, addRows, sumRows}
 use Rattle.frame.specs.Steps.{addedFirst}
 use Rattle.frame.proofs.RowLaws.{length-plus, added-first}
-use Rattle.rows.proofs.Stretches.{over-front, over-last, to-end, in-front, kept-long, over-done, over-left}
+use Rattle.rows.proofs.Stretches.{over-front, over-last, to-end, in-front, kept-long}
 use Rattle.rows.proofs.RowsLeft.{more, Left, all-left, row-fits, row-done, none-left}
 
 -- ---- the row at a added to a later one, at `at`

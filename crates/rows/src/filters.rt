@@ -1,13 +1,42 @@
 // Rows through the band filters of their lines.
+use fours::FourBands;
 use iir::Bands;
 use iir::Filter;
 ghost use mathlib.Core.Path.{_≡_};
 ghost use mathlib.Core.List.{_++_};
-ghost use Prim.Native.Nat.{_+_, _*_, _<_, _≤_};
+ghost use Prim.Native.Nat.{_+_, _*_, _/_, _<_, _≤_};
 ghost use lib.ListN.{length, drop};
 ghost use Rattle.samples.specs.Lists.{over};
 ghost use Rattle.iir.specs.Runs.{bandsOut, bandsEnd};
+ghost use Rattle.fours.specs.Lines.{linesOut, linesEnd};
 ghost use Rattle.frame.specs.Lines.{bandRows, bandEnds, three, threeOf};
+ghost use Rattle.rows.specs.Groups.{fourFrom, inOrder};
+
+// The three filters from k on.
+fn three_of(k: usize, fs: [Filter; 51]) -> Bands
+    requires { ⌜ k + 2 < 51 ⌝ }
+    ensures { λ r. ⌜ r ≡ three k fs ⌝ }
+{
+    let f0 = fs[k];
+    let f1 = fs[k + 1];
+    let f2 = fs[k + 2];
+    Bands { f0, f1, f2 }
+}
+
+// The filters with three others from k on.
+fn with_three(k: usize, b: Bands, fs: [Filter; 51]) -> [Filter; 51]
+    requires { ⌜ k + 2 < 51 ⌝ }
+    ensures { λ r. ⌜ r ≡ over k (threeOf b) fs ⌝ }
+{
+    let f0 = b.f0;
+    let f1 = b.f1;
+    let f2 = b.f2;
+    let mut gs = fs;
+    gs[k] = f0;
+    gs[k + 1] = f1;
+    gs[k + 2] = f2;
+    gs
+}
 
 // Filters a row by the three filters from k on, and gives the filters after it.
 pub(crate) fn three_at(k: usize, fs: [Filter; 51], row: &mut [f32]) -> [Filter; 51]
@@ -15,43 +44,52 @@ pub(crate) fn three_at(k: usize, fs: [Filter; 51], row: &mut [f32]) -> [Filter; 
     ensures { λ r. ⌜ r ≡ over k (threeOf (bandsEnd (three k fs) (now (row .entry)))) fs ⌝ }
     ensures { λ _. ⌜ now (row .exit) ≡ bandsOut (three k fs) (now (row .entry)) ⌝ }
 {
-    let f0 = fs[k];
-    let f1 = fs[k + 1];
-    let f2 = fs[k + 2];
-    let h = iir::three_bands(Bands { f0, f1, f2 }, row);
-    let h0 = h.f0;
-    let h1 = h.f1;
-    let h2 = h.f2;
-    let mut gs = fs;
-    gs[k] = h0;
-    gs[k + 1] = h1;
-    gs[k + 2] = h2;
-    gs
+    let h = iir::three_bands(three_of(k, fs), row);
+    with_three(k, h, fs)
 }
 
-// Filters n rows, each by its line's three bands, and gives the filters after them.
+// Filters the rows of four lines, a quarter of `rows` each, by the twelve filters from k on, and gives
+// the filters after them.
+fn twelve_at(k: usize, fs: [Filter; 51], rows: &mut [f32]) -> [Filter; 51]
+    requires { ⌜ k + 11 < 51 ⌝ }
+    ensures { λ r. ⌜ r ≡ over k (inOrder (linesEnd (length (now (rows .entry)) / 4) (fourFrom k fs) (now (rows .entry)))) fs ⌝ }
+    ensures { λ _. ⌜ now (rows .exit) ≡ linesOut (length (now (rows .entry)) / 4) (fourFrom k fs) (now (rows .entry)) ⌝ }
+{
+    let b0 = three_of(k, fs);
+    let b1 = three_of(k + 3, fs);
+    let b2 = three_of(k + 6, fs);
+    let b3 = three_of(k + 9, fs);
+    let h = fours::four_lines(FourBands { b0, b1, b2, b3 }, rows);
+    let g0 = with_three(k, h.b0, fs);
+    let g1 = with_three(k + 3, h.b1, g0);
+    let g2 = with_three(k + 6, h.b2, g1);
+    with_three(k + 9, h.b3, g2)
+}
+
+// Filters n rows, each by its line's three bands, and gives the filters after them. Four lines go side
+// by side while as many are left.
 pub(crate) fn band_lines(n: usize, f: usize, fs: [Filter; 51], rows: &mut [f32]) -> [Filter; 51]
     requires { ⌜ (n ≤ 16) × (length (now rows) ≡ n * f) ⌝ }
     ensures { λ r. ⌜ r ≡ bandEnds f n 0 fs (now (rows .entry)) ++ drop (3 * n) fs ⌝ }
     ensures { λ _. ⌜ now (rows .exit) ≡ bandRows f n 2 fs (bandRows f n 1 fs (bandRows f n 0 fs (now (rows .entry)))) ⌝ }
 {
     let mut gs = fs;
-    let mut k = 0usize;
     let mut b = 0usize;
-    for _ in 0..n {
-        let t = b + f;
-        let f0 = gs[k];
-        let f1 = gs[k + 1];
-        let f2 = gs[k + 2];
-        let h = iir::three_bands(Bands { f0, f1, f2 }, &mut rows[b..t]);
-        let h0 = h.f0;
-        let h1 = h.f1;
-        let h2 = h.f2;
-        gs[k] = h0;
-        gs[k + 1] = h1;
-        gs[k + 2] = h2;
-        k += 3;
-        b = t;
+    let mut i = 0usize;
+    while i < n {
+        if 4 <= n - i {
+            let e = b + 4 * f;
+            let hs = twelve_at(3 * i, gs, &mut rows[b..e]);
+            gs = hs;
+            b = e;
+            i += 4;
+        } else {
+            let e = b + f;
+            let hs = three_at(3 * i, gs, &mut rows[b..e]);
+            gs = hs;
+            b = e;
+            i += 1;
+        }
     }
     gs
 }

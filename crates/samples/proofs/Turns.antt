@@ -3,7 +3,7 @@
 use mathlib.Core.Path.{_≡_, refl, sym, ap, _∙_}
 use mathlib.Core.Bool.{Bool, true, false}
 use mathlib.Core.Logic.{_⊎_, inl, inr}
-use mathlib.Core.List.{List, [], _∷_, _++_, append-nil}
+use mathlib.Core.List.{List, [], _∷_, _++_, append-nil, append-assoc}
 use Prim.Native.Nat.{ℕ, zero, suc, _+_, _-_, _*_, _≤_, _<_}
 use native.Mathlib.Nat.{le-add-right, add-sub-cancel-left, suc-mul, mul-le-mul-right}
 use native.Mathlib.Numerals.{add-one, lt-add-one}
@@ -120,3 +120,19 @@ module _ {A : Type 0} where
   pub over-before : (at : ℕ) (row xs : List A) → at ≤ length xs → take at (over at row xs) ≡ take at xs
   unfolding over
   over-before at row xs h = take-at (take at xs) (row ++ drop (at + length row) xs) at (length-take-le at xs h)
+
+  -- with ys of k elements: what comes before their end, and what after it
+  module _ (at : ℕ) (xs : List A) (k : ℕ) (ys : List A) (e : length ys ≡ k) (h : at + k ≤ length xs) where
+    -- joined to the left
+    over-split : over at ys xs ≡ take at xs ++ ys ++ drop (at + k) xs
+    unfolding over
+    over-split = rw (← e) (sym (append-assoc (take at xs) ys (drop (at + length ys) xs)))
+
+    done-long : length (take at xs ++ ys) ≡ at + k
+    done-long = simp (length-append, length-take) (omega arith)
+
+    pub over-done : take (at + k) (over at ys xs) ≡ take at xs ++ ys
+    over-done = ap (take (at + k)) over-split ∙ take-at (take at xs ++ ys) (drop (at + k) xs) (at + k) done-long
+
+    pub over-left : drop (at + k) (over at ys xs) ≡ drop (at + k) xs
+    over-left = ap (drop (at + k)) over-split ∙ drop-at (take at xs ++ ys) (drop (at + k) xs) (at + k) done-long

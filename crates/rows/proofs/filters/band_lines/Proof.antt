@@ -2,120 +2,118 @@
 -- so of the filters. Assumes nothing.
 use borrow.Author.Needs.{needs}
 use native.Mathlib.Omega.{arith}
-use mathlib.Core.Path.{refl, sym}
-use Prim.Native.Nat.{_≤_, _+_, _-_, _*_}
-use native.Mathlib.Nat.{zero-add, sub-zero}
+use Prim.Native.Nat.{_+_, _*_, _-_, _≤_}
 use lib.ListN.{length}
 use Rattle.frame.specs.Lines.{bandEnds}
 use Rattle.frame.proofs.RowLaws.{byBands}
-use Rattle.rows.proofs.RowsLeft.{all-left, row-fits}
-use Rattle.rows.proofs.BandTurns.{Filtering, band-turn, band-done}
+use Rattle.rows.proofs.RowsLeft.{rows-fit, row-fits}
+use Rattle.rows.proofs.BandTurns.{Filtering, band-start, four-turn, one-turn, band-done}
 use Rattle.rows.proofs.filters.band_lines.Statement.{statement}
 use Rattle.rows.proofs.filters.band_lines.Tie as tie
 
 abbrev Inv-loop : tie.InvT-loop
-Inv-loop n f rows₀ gs₀ k₀ b₀ counter₀ rows gs k b counter =
-    Filtering n f gs₀ (byBands f n 0 gs₀ rows₀) (bandEnds f n 0 gs₀ rows₀) (length rows₀) counter k b gs rows
+Inv-loop n f rows₀ gs₀ b₀ i₀ rows gs b i =
+    Filtering n f gs₀ (byBands f n 0 gs₀ rows₀) (bandEnds f n 0 gs₀ rows₀) (length rows₀) i b gs rows
 
 abbrev μ-loop : tie.MeasureT-loop
-μ-loop n f rows₀ gs₀ k₀ b₀ counter₀ rows gs k b counter = n - counter
+μ-loop n f rows₀ gs₀ b₀ i₀ rows gs b i = n - i
 
-fits : (c : tie.In-loop Inv-loop μ-loop) → c .before .loop .b + c .before .before .before .args .f ≤ length (c .before .loop .rows)
-fits c =
+-- four rows from b on end within the rows, and so does one
+four-fit : (c : tie.Then1 Inv-loop μ-loop)
+    → c .before .before .loop .b + 4 * c .before .before .before .before .args .f ≤ length (c .before .before .loop .rows)
+four-fit c =
+    let l = c .before .before .loop in
+    let s = c .before .before .before .before in
+    omega (arith, l .inv .1, rows-fit (s .args .n) (s .args .f) (l .i) (l .b) _ (l .inv .0) 4 (omega arith))
+
+one-fits : (c : tie.In-loop Inv-loop μ-loop) → c .before .loop .b + c .before .before .before .args .f ≤ length (c .before .loop .rows)
+one-fits c =
     let l = c .before .loop in
     let s = c .before .before .before in
-    omega (arith, l .inv .1, row-fits (s .args .n) (s .args .f) (l .counter) (l .b) _ (l .inv .0) (c .loop-test .taken))
+    omega (arith, l .inv .1, row-fits (s .args .n) (s .args .f) (l .i) (l .b) _ (l .inv .0) (c .loop-test .taken))
 
 loop-holds : tie.Need-loop-holds Inv-loop μ-loop
-loop-holds c =
-    let s = c .before in
-    let z = sub-zero (s .args .n) in
-    (all-left _ _ 0 _ (rw zero-add (sym (s .pre .1))), refl, refl, refl, refl, rw z refl, rw z refl)
+loop-holds c = band-start _ _ _ _ (c .before .pre .1)
 
-add-t : tie.Need-add-t Inv-loop μ-loop
-add-t c = omega (arith, fits c)
+sub-if1 : tie.Need-sub-if1 Inv-loop μ-loop
+sub-if1 c = search needs
 
-mul-f0 : tie.Need-mul-f0 Inv-loop μ-loop
-mul-f0 c = search needs
+mul-e : tie.Need-mul-e Inv-loop μ-loop
+mul-e c = omega (arith, four-fit c)
 
-array-copy-out-f0 : tie.Need-array-copy-out-f0 Inv-loop μ-loop
-array-copy-out-f0 c = search needs
+add-e : tie.Need-add-e Inv-loop μ-loop
+add-e c = omega (arith, four-fit c)
 
-add-f1 : tie.Need-add-f1 Inv-loop μ-loop
-add-f1 c = search needs
+mul-twelve-at : tie.Need-mul-twelve-at Inv-loop μ-loop
+mul-twelve-at c = search needs
 
-mul-f1 : tie.Need-mul-f1 Inv-loop μ-loop
-mul-f1 c = search needs
+mul-twelve-at-2 : tie.Need-mul-twelve-at-2 Inv-loop μ-loop
+mul-twelve-at-2 c = search needs
 
-array-copy-out-f1 : tie.Need-array-copy-out-f1 Inv-loop μ-loop
-array-copy-out-f1 c = search needs
+sub-twelve-at : tie.Need-sub-twelve-at Inv-loop μ-loop
+sub-twelve-at c = search needs
 
-add-f2 : tie.Need-add-f2 Inv-loop μ-loop
-add-f2 c = search needs
+part-twelve-at-start : tie.Need-part-twelve-at-start Inv-loop μ-loop
+part-twelve-at-start c = search needs
 
-mul-f2 : tie.Need-mul-f2 Inv-loop μ-loop
-mul-f2 c = search needs
+part-twelve-at-end : tie.Need-part-twelve-at-end Inv-loop μ-loop
+part-twelve-at-end c = omega (arith, four-fit c)
 
-array-copy-out-f2 : tie.Need-array-copy-out-f2 Inv-loop μ-loop
-array-copy-out-f2 c = search needs
+twelve-at-requires : tie.Need-twelve-at-requires Inv-loop μ-loop
+twelve-at-requires c κs = search needs
 
-mul-three-bands : tie.Need-mul-three-bands Inv-loop μ-loop
-mul-three-bands c = search needs
-
-sub-three-bands : tie.Need-sub-three-bands Inv-loop μ-loop
-sub-three-bands c = search needs
-
-part-three-bands-start : tie.Need-part-three-bands-start Inv-loop μ-loop
-part-three-bands-start c = search needs
-
-part-three-bands-end : tie.Need-part-three-bands-end Inv-loop μ-loop
-part-three-bands-end c = omega (arith, fits (c .before .before .before))
-
-three-bands-requires : tie.Need-three-bands-requires Inv-loop μ-loop
-three-bands-requires c κs = search needs
-
-mul-gs : tie.Need-mul-gs Inv-loop μ-loop
-mul-gs c = search needs
-
-array-set-from-gs : tie.Need-array-set-from-gs Inv-loop μ-loop
-array-set-from-gs c = search needs
-
-add-gs : tie.Need-add-gs Inv-loop μ-loop
-add-gs c = search needs
-
-mul-gs-2 : tie.Need-mul-gs-2 Inv-loop μ-loop
-mul-gs-2 c = search needs
-
-array-set-from-gs-2 : tie.Need-array-set-from-gs-2 Inv-loop μ-loop
-array-set-from-gs-2 c = search needs
-
-add-gs-2 : tie.Need-add-gs-2 Inv-loop μ-loop
-add-gs-2 c = search needs
-
-mul-gs-3 : tie.Need-mul-gs-3 Inv-loop μ-loop
-mul-gs-3 c = search needs
-
-array-set-from-gs-3 : tie.Need-array-set-from-gs-3 Inv-loop μ-loop
-array-set-from-gs-3 c = search needs
-
-add-k : tie.Need-add-k Inv-loop μ-loop
-add-k c = search needs
-
-add-counter : tie.Need-add-counter Inv-loop μ-loop
-add-counter c = search needs
+add-i : tie.Need-add-i Inv-loop μ-loop
+add-i c = search needs
 
 loop-less : tie.Need-loop-less Inv-loop μ-loop
 loop-less c = search needs
 
 loop-again : tie.Need-loop-again Inv-loop μ-loop
 loop-again c =
-    let called = c .before .before .before .before .before in
-    let turn = called .before .before .before .before .before in
-    let l = turn .before .loop in
-    let s = turn .before .before .before in
+    let called = c .before .before in
+    let turn = called .before .before in
+    let l = turn .before .before .loop in
+    let s = turn .before .before .before .before in
     let few : 3 * s .args .n ≤ length (s .args .fs) = omega (arith, s .pre .0, s .good) in
-    band-turn (s .args .n) (s .args .f) (s .args .fs) _ _ _ (l .counter) (l .k) (l .b) (l .gs) (l .rows) _ (called .three-bands .result)
-    (turn .loop-test .taken) few (l .inv) (called .three-bands .ensures .0) (called .three-bands .ensures .1)
+    four-turn (s .args .n) (s .args .f) (s .args .fs) _ _ _ (l .i) (l .b) (l .gs) (l .rows) _ _ (omega arith) few (l .inv)
+    (called .twelve-at .ensures .0) (called .twelve-at .ensures .1)
+
+add-e-2 : tie.Need-add-e-2 Inv-loop μ-loop
+add-e-2 c = omega (arith, one-fits (c .before))
+
+mul-three-at : tie.Need-mul-three-at Inv-loop μ-loop
+mul-three-at c = search needs
+
+mul-three-at-2 : tie.Need-mul-three-at-2 Inv-loop μ-loop
+mul-three-at-2 c = search needs
+
+sub-three-at : tie.Need-sub-three-at Inv-loop μ-loop
+sub-three-at c = search needs
+
+part-three-at-start : tie.Need-part-three-at-start Inv-loop μ-loop
+part-three-at-start c = search needs
+
+part-three-at-end : tie.Need-part-three-at-end Inv-loop μ-loop
+part-three-at-end c = omega (arith, one-fits (c .before))
+
+three-at-requires : tie.Need-three-at-requires Inv-loop μ-loop
+three-at-requires c κs = search needs
+
+add-i-2 : tie.Need-add-i-2 Inv-loop μ-loop
+add-i-2 c = search needs
+
+loop-less-2 : tie.Need-loop-less-2 Inv-loop μ-loop
+loop-less-2 c = search needs
+
+loop-again-2 : tie.Need-loop-again-2 Inv-loop μ-loop
+loop-again-2 c =
+    let called = c .before .before in
+    let turn = called .before .before in
+    let l = turn .before .before .loop in
+    let s = turn .before .before .before .before in
+    let few : 3 * s .args .n ≤ length (s .args .fs) = omega (arith, s .pre .0, s .good) in
+    one-turn (s .args .n) (s .args .f) (s .args .fs) _ _ _ (l .i) (l .b) (l .gs) (l .rows) _ _ (turn .before .loop-test .taken) few (l .inv)
+    (called .three-at .ensures .0) (called .three-at .ensures .1)
 
 same-length : tie.Need-same-length Inv-loop μ-loop
 same-length c = search needs
@@ -124,7 +122,7 @@ returns : tie.Need-returns Inv-loop μ-loop
 returns c =
     let l = c .before .loop in
     let s = c .before .before .before in
-    band-done (s .args .n) (s .args .f) (s .args .fs) _ _ _ (l .counter) (l .k) (l .b) (l .gs) (l .rows) (c .loop-test .left) (l .inv)
+    band-done (s .args .n) (s .args .f) (s .args .fs) _ _ _ (l .i) (l .b) (l .gs) (l .rows) (c .loop-test .left) (l .inv)
 
 pub band-lines-spec : {M : Type 1} → statement M
 band-lines-spec =
@@ -133,31 +131,27 @@ band-lines-spec =
     Inv-loop
     μ-loop
     loop-holds
-    add-t
-    mul-f0
-    array-copy-out-f0
-    add-f1
-    mul-f1
-    array-copy-out-f1
-    add-f2
-    mul-f2
-    array-copy-out-f2
-    mul-three-bands
-    sub-three-bands
-    part-three-bands-start
-    part-three-bands-end
-    three-bands-requires
-    mul-gs
-    array-set-from-gs
-    add-gs
-    mul-gs-2
-    array-set-from-gs-2
-    add-gs-2
-    mul-gs-3
-    array-set-from-gs-3
-    add-k
-    add-counter
+    sub-if1
+    mul-e
+    add-e
+    mul-twelve-at
+    mul-twelve-at-2
+    sub-twelve-at
+    part-twelve-at-start
+    part-twelve-at-end
+    twelve-at-requires
+    add-i
     loop-less
     loop-again
+    add-e-2
+    mul-three-at
+    mul-three-at-2
+    sub-three-at
+    part-three-at-start
+    part-three-at-end
+    three-at-requires
+    add-i-2
+    loop-less-2
+    loop-again-2
     same-length
     returns)

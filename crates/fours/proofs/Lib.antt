@@ -1,0 +1,5 @@
+pub mod ColumnLaws
+pub mod LaneLaws
+pub mod TileLaws
+pub mod TileTurns
+pub mod RowTurns

@@ -1,0 +1,49 @@
+-- `fours::four_lines` meets its contract. Assumes nothing.
+use Rattle.fours.proofs.LaneLaws.{bank-lines}
+use borrow.Author.Needs.{needs}
+use Rattle.fours.proofs.four_lines.Statement.{statement}
+use Rattle.fours.proofs.four_lines.Tie as tie
+
+by-band-requires : tie.Need-by-band-requires
+by-band-requires c κs = search needs
+
+run-rows-requires : tie.Need-run-rows-requires
+run-rows-requires c κs = search needs
+
+bands-at-requires : tie.Need-bands-at-requires
+bands-at-requires c κs = search needs
+
+bands-at-requires-2 : tie.Need-bands-at-requires-2
+bands-at-requires-2 c κs = search needs
+
+bands-at-requires-3 : tie.Need-bands-at-requires-3
+bands-at-requires-3 c κs = search needs
+
+bands-at-requires-4 : tie.Need-bands-at-requires-4
+bands-at-requires-4 c κs = search needs
+
+same-length : tie.Need-same-length
+same-length c = search needs
+
+returns : tie.Need-returns
+returns c =
+    let first = c .before .before .before in
+    let called = first .before .before .before in
+    let packed = called .before .before in
+    let same = bank-lines (packed .before .before .args .b) in
+    let ends = rw (packed .by-band .ensures, same) at (called .run-rows .ensures .0) in
+    let outs = rw (packed .by-band .ensures, same) at (called .run-rows .ensures .1) in
+    (rw (first .bands-at .ensures, c .before .before .bands-at2 .ensures, c .before .bands-at3 .ensures, c .bands-at4 .ensures) ends, outs)
+
+pub four-lines-spec : {M : Type 1} → statement M
+four-lines-spec =
+    tie.close
+    (tie.spec
+    by-band-requires
+    run-rows-requires
+    bands-at-requires
+    bands-at-requires-2
+    bands-at-requires-3
+    bands-at-requires-4
+    same-length
+    returns)

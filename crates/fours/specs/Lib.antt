@@ -1,0 +1,5 @@
+pub mod Lines
+pub mod Four
+pub mod Lanes
+pub mod Bank
+pub mod Tile

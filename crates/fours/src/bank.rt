@@ -1,0 +1,88 @@
+// The three bands of four lines, side by side.
+use crate::FourBands;
+use crate::four::Four;
+use crate::lanes::Lanes;
+use crate::lanes::lane;
+use crate::lanes::pack;
+use crate::lanes::step;
+use crate::tile::set_column;
+use iir::Bands;
+ghost use mathlib.Core.Path.{_≡_};
+ghost use Prim.Native.Nat.{_+_, _*_, _<_, _≤_};
+ghost use lib.ListN.{length};
+ghost use Rattle.fours.specs.Bank.{bankOf, bandsAt, stepBank};
+ghost use Rattle.fours.specs.Tile.{tileColumn, tilePut, Played};
+
+// Band 0 of four lines, band 1 and band 2.
+pub struct Bank {
+    pub l0: Lanes,
+    pub l1: Lanes,
+    pub l2: Lanes,
+}
+
+// The bands of four lines, band by band.
+pub(crate) fn by_band(b: FourBands) -> Bank
+    ensures { λ r. ⌜ r ≡ bankOf b ⌝ }
+{
+    let f = b.b0;
+    let g = b.b1;
+    let h = b.b2;
+    let k = b.b3;
+    Bank {
+        l0: pack(f.f0, g.f0, h.f0, k.f0),
+        l1: pack(f.f1, g.f1, h.f1, k.f1),
+        l2: pack(f.f2, g.f2, h.f2, k.f2),
+    }
+}
+
+// The bands of line k.
+pub(crate) fn bands_at(k: usize, g: Bank) -> Bands
+    ensures { λ r. ⌜ r ≡ bandsAt k g ⌝ }
+{
+    Bands {
+        f0: lane(k, g.l0),
+        f1: lane(k, g.l1),
+        f2: lane(k, g.l2),
+    }
+}
+
+// One sample of each line through the bands.
+pub(crate) fn step_bank(g: Bank, x: Four) -> Bank
+    ensures { λ r. ⌜ r ≡ stepBank g x ⌝ }
+{
+    let l0 = step(g.l0, x);
+    let l1 = step(g.l1, l0.y1);
+    let l2 = step(g.l2, l1.y1);
+    Bank { l0, l1, l2 }
+}
+
+// Column j of a tile through the bands, in place.
+pub(crate) fn turn(j: usize, g: Bank, tile: &mut [f32]) -> Bank
+    requires { ⌜ 4 * j + 3 < length (now tile) ⌝ }
+    ensures { λ r. ⌜ r ≡ stepBank g (tileColumn j (now (tile .entry))) ⌝ }
+    ensures { λ r. ⌜ now (tile .exit) ≡ tilePut j (r .l2 .y1) (now (tile .entry)) ⌝ }
+{
+    let at = 4 * j;
+    let x = Four {
+        v0: tile[at],
+        v1: tile[at + 1],
+        v2: tile[at + 2],
+        v3: tile[at + 3],
+    };
+    let h = step_bank(g, x);
+    let l = h.l2;
+    set_column(j, l.y1, tile);
+    h
+}
+
+// The first m columns of a tile through the bands, in place.
+pub(crate) fn run(m: usize, b: Bank, tile: &mut [f32]) -> Bank
+    requires { ⌜ 4 * m ≤ length (now tile) ⌝ }
+    ensures { λ r. ⌜ Played m b r (now (tile .entry)) (now (tile .exit)) ⌝ }
+{
+    let mut g = b;
+    for j in 0..m {
+        g = turn(j, g, tile);
+    }
+    g
+}
