@@ -3,3 +3,5 @@ pub mod LaneLaws
 pub mod TileLaws
 pub mod TileTurns
 pub mod RowTurns
+pub mod BehindLaws
+pub mod BehindTurns

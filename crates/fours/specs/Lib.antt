@@ -3,3 +3,4 @@ pub mod Four
 pub mod Lanes
 pub mod Bank
 pub mod Tile
+pub mod Behind

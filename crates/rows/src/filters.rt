@@ -44,7 +44,7 @@ pub(crate) fn three_at(k: usize, fs: [Filter; 51], row: &mut [f32]) -> [Filter; 
     ensures { λ r. ⌜ r ≡ over k (threeOf (bandsEnd (three k fs) (now (row .entry)))) fs ⌝ }
     ensures { λ _. ⌜ now (row .exit) ≡ bandsOut (three k fs) (now (row .entry)) ⌝ }
 {
-    let h = iir::three_bands(three_of(k, fs), row);
+    let h = fours::one_line(three_of(k, fs), row);
     with_three(k, h, fs)
 }
 

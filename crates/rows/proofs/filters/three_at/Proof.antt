@@ -10,8 +10,8 @@ use Rattle.rows.proofs.filters.three_at.Tie as tie
 three-of-requires : tie.Need-three-of-requires
 three-of-requires c κs = search needs
 
-three-bands-requires : tie.Need-three-bands-requires
-three-bands-requires c κs = search needs
+one-line-requires : tie.Need-one-line-requires
+one-line-requires c κs = search needs
 
 with-three-requires : tie.Need-with-three-requires
 with-three-requires c κs = search needs
@@ -24,11 +24,11 @@ returns c =
     let called = c .before .before .before in
     let found = called .before .before in
     let s = found .before .before in
-    let ends = rw (found .three-of .ensures) at (called .three-bands .ensures .0) in
-    let outs = rw (found .three-of .ensures) at (called .three-bands .ensures .1) in
+    let ends = rw (found .three-of .ensures) at (called .one-line .ensures .0) in
+    let outs = rw (found .three-of .ensures) at (called .one-line .ensures .1) in
     (c .with-three .ensures ∙ ap (λ (b : Bands). over (s .args .k) (threeOf b) (s .args .fs)) ends, outs)
 
 pub three-at-spec : {M : Type 1} → statement M
 three-at-spec =
     tie.close
-    (tie.spec three-of-requires three-bands-requires with-three-requires same-length returns)
+    (tie.spec three-of-requires one-line-requires with-three-requires same-length returns)
