@@ -5,7 +5,7 @@ use lib.Ieee.{Float}
 use Rattle.samples.specs.Binary32.{+0}
 use Rattle.iir.specs.declared.Filter.{Filter}
 use Rattle.iir.specs.declared.Bands.{Bands}
-use Rattle.iir.specs.Step.{step}
+use Rattle.iir.specs.Step.{fromCoefficients, step}
 use Rattle.iir.specs.Runs.{runOut, runEnd}
 use Rattle.fours.specs.declared.four.Four.{Four}
 use Rattle.fours.specs.declared.lanes.Lanes.{Lanes}
@@ -13,12 +13,12 @@ use Rattle.fours.specs.declared.line.Last.{Last}
 use Rattle.fours.specs.Four.{beside}
 use Rattle.fours.specs.Lanes.{packed, lane, stepAll}
 
--- after the first four samples: band 0 has taken all of them, band 1 two, and band 2 none
+-- after the first four samples: band 0 has taken all of them, band 1 two, and band 2 none; the fourth place is idle
 unfoldable pub begun : Bands → Four → Lanes
 begun b x =
     let f0 = step (b .f0) (x .v0) in
     let f1 = step f0 (x .v1) in
-    packed (step (step f1 (x .v2)) (x .v3)) (step (step (b .f1) (f0 .y1)) (f1 .y1)) (b .f2) (b .f2)
+    packed (step (step f1 (x .v2)) (x .v3)) (step (step (b .f1) (f0 .y1)) (f1 .y1)) (b .f2) (fromCoefficients +0 +0 +0 +0 +0)
 
 -- after band 0 takes x, and each of the others what the one before it gave two turns ago
 unfoldable pub behind : Lanes → Float → Lanes

@@ -7,6 +7,7 @@ use crate::lanes::pack;
 use crate::lanes::step;
 use iir::Bands;
 use iir::filtered;
+use iir::new_from_coefficients;
 ghost use mathlib.Core.Path.{_≡_};
 ghost use mathlib.Core.List.{[], _++_};
 ghost use Prim.Native.Nat.{_-_, _≤_};
@@ -21,7 +22,7 @@ pub struct Last {
 }
 
 // The bands after a row's first four samples: band 0 has taken all of them, band 1 two, and band 2
-// none.
+// none. The fourth place is idle: its numbers are all +0 and stay so.
 fn begin(b: Bands, x: Four) -> Lanes
     ensures { λ r. ⌜ r ≡ begun b x ⌝ }
 {
@@ -31,7 +32,7 @@ fn begin(b: Bands, x: Four) -> Lanes
     let f3 = filtered(f2, x.v3);
     let g0 = filtered(b.f1, f0.y1);
     let g1 = filtered(g0, f1.y1);
-    pack(f3, g1, b.f2, b.f2)
+    pack(f3, g1, b.f2, new_from_coefficients(0.0, 0.0, 0.0, 0.0, 0.0))
 }
 
 // The bands after band 0 takes x, and each of the others what the one before it gave two turns ago.

@@ -22,17 +22,22 @@ filtered-requires-5 c κs = search needs
 filtered-requires-6 : tie.Need-filtered-requires-6
 filtered-requires-6 c κs = search needs
 
+new-from-coefficients-requires : tie.Need-new-from-coefficients-requires
+new-from-coefficients-requires c κs = search needs
+
 pack-requires : tie.Need-pack-requires
 pack-requires c κs = search needs
 
 returns : tie.Need-returns
 unfolding begun
 returns c =
-    let four = c .before .before .before in
+    let two = c .before .before in
+    let four = two .before .before in
     rw (
       c .pack .ensures,
-      c .before .filtered6 .ensures,
-      c .before .before .filtered5 .ensures,
+      c .before .new-from-coefficients .ensures,
+      two .filtered6 .ensures,
+      two .before .filtered5 .ensures,
       four .filtered4 .ensures,
       four .before .filtered3 .ensures,
       four .before .before .filtered2 .ensures,
@@ -49,5 +54,6 @@ begin-spec =
     filtered-requires-4
     filtered-requires-5
     filtered-requires-6
+    new-from-coefficients-requires
     pack-requires
     returns)
