@@ -10,7 +10,7 @@ use lib.Ieee.{Float, nan}
 use lib.ListN.{length, getD, take, drop, set, length-append, length-take, length-drop, take-append-drop, drop-of-length-le}
 use lib.Seq.{take-all, take-suc, take-suc-set, drop-cons, getD-take, getD-drop, set-at, length-take-le}
 use Rattle.samples.specs.Lists.{over, row}
-use Rattle.samples.proofs.Turns.{next, front, stored, all-done}
+use Rattle.samples.proofs.Turns.{front, stored, all-done}
 use Rattle.iir.specs.Runs.{bandsOut, bandsEnd}
 use Rattle.fours.specs.declared.four.Four.{Four}
 use Rattle.fours.specs.declared.bank.Bank.{Bank}

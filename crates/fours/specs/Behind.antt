@@ -1,5 +1,4 @@
 -- A line alone: each band two samples behind the one before it. Private functions alone cite it.
-use Prim.Native.Nat.{ℕ}
 use mathlib.Core.List.{List, [], _∷_}
 use lib.Ieee.{Float}
 use Rattle.samples.specs.Binary32.{+0}

@@ -1,6 +1,5 @@
 -- A filter of each of four lines, its numbers by kind. Private functions alone cite it.
 use Prim.Native.Nat.{ℕ}
-use lib.Ieee.{Float}
 use Rattle.samples.specs.Binary32.{_⊕_, _⊖_, _⊗_}
 use Rattle.iir.specs.declared.Filter.{Filter}
 use Rattle.fours.specs.declared.four.Four.{Four}

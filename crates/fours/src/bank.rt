@@ -6,6 +6,7 @@ use crate::lanes::lane;
 use crate::lanes::pack;
 use crate::lanes::step;
 use crate::tile::set_column;
+use crate::tile::tile_column;
 use iir::Bands;
 ghost use mathlib.Core.Path.{_≡_};
 ghost use Prim.Native.Nat.{_+_, _*_, _<_, _≤_};
@@ -62,14 +63,7 @@ pub(crate) fn turn(j: usize, g: Bank, tile: &mut [f32]) -> Bank
     ensures { λ r. ⌜ r ≡ stepBank g (tileColumn j (now (tile .entry))) ⌝ }
     ensures { λ r. ⌜ now (tile .exit) ≡ tilePut j (r .l2 .y1) (now (tile .entry)) ⌝ }
 {
-    let at = 4 * j;
-    let x = Four {
-        v0: tile[at],
-        v1: tile[at + 1],
-        v2: tile[at + 2],
-        v3: tile[at + 3],
-    };
-    let h = step_bank(g, x);
+    let h = step_bank(g, tile_column(j, tile));
     let l = h.l2;
     set_column(j, l.y1, tile);
     h

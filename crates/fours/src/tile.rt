@@ -40,7 +40,7 @@ fn put_column(f: usize, t: usize, y: Four, rows: &mut [f32])
 }
 
 // Column j of a tile.
-fn tile_column(j: usize, tile: &[f32]) -> Four
+pub(crate) fn tile_column(j: usize, tile: &[f32]) -> Four
     requires { ⌜ 4 * j + 3 < length (now tile) ⌝ }
     ensures { λ r. ⌜ r ≡ tileColumn j (now (tile .entry)) ⌝ }
 {

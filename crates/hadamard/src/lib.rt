@@ -12,7 +12,7 @@ ghost use Rattle.samples.specs.Binary32.{_⊕_, _⊖_, _⊗_};
 ghost use Rattle.samples.specs.Answers.{accept};
 ghost use Rattle.samples.specs.Lists.{over};
 ghost use Rattle.hadamard.specs.Mix.{minus, plusMinus, mixAt, mixed, quarter, judgedSample};
-ghost use Rattle.hadamard.specs.Rows.{mixedRow, mixedRows, judgedRows, rowsMixed};
+ghost use Rattle.hadamard.specs.Rows.{mixedRows, judgedRows, rowsMixed};
 ghost use Rattle.hadamard.specs.Passes.{laid, pass, crossed, summed, summedTwo, rowSum, mixedAt};
 
 // Whether row r of the mix takes column c with a minus.

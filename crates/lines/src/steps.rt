@@ -9,7 +9,6 @@ ghost use mathlib.Core.Path.{_≡_};
 ghost use mathlib.Core.List.{_++_};
 ghost use Prim.Native.Nat.{_+_, _-_, _<_, _≤_};
 ghost use lib.ListN.{length, take, drop};
-ghost use Rattle.samples.specs.Lists.{over};
 ghost use Rattle.unit.specs.Model.{wall};
 ghost use Rattle.unit.specs.Sizes.{lineLengths, total};
 ghost use Rattle.frame.specs.Lines.{filtersOf, readRows};
