@@ -23,14 +23,21 @@ pub fn in_range(s: State) -> bool
     let frame = s.frame;
     let lines = s.lines;
     let passes = s.passes;
-    let busy = s.busy;
     and(
         and(rate_ok(rate), frame_ok(frame)),
         and(
             and(lines_ok(lines, frame), passes_ok(passes)),
-            or(busy, blank_open(s)),
+            open_or_blank(s),
         ),
     )
+}
+
+// Whether a frame is open, or else nothing is held for one.
+fn open_or_blank(s: State) -> bool
+    ensures { λ r. ⌜ r ≡ (s .busy || blankOpen (ofState s)) ⌝ }
+{
+    let busy = s.busy;
+    if busy { true } else { blank_open(s) }
 }
 
 // Whether nothing is held for an open frame.
@@ -116,11 +123,4 @@ fn is_zero(n: Frames) -> bool
     ensures { λ r. ⌜ r ≡ isZero (n .0) ⌝ }
 {
     n.0 == 0
-}
-
-// One test or the other.
-fn or(a: bool, b: bool) -> bool
-    ensures { λ r. ⌜ r ≡ (a || b) ⌝ }
-{
-    if a { true } else { b }
 }

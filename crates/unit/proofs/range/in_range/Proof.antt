@@ -22,11 +22,8 @@ passes-ok-requires c κs = search needs
 and-requires-2 : tie.Need-and-requires-2
 and-requires-2 c κs = search needs
 
-blank-open-requires : tie.Need-blank-open-requires
-blank-open-requires c κs = search needs
-
-or-requires : tie.Need-or-requires
-or-requires c κs = search needs
+open-or-blank-requires : tie.Need-open-or-blank-requires
+open-or-blank-requires c κs = search needs
 
 and-requires-3 : tie.Need-and-requires-3
 and-requires-3 c κs = search needs
@@ -48,8 +45,7 @@ in-range-spec =
     lines-ok-requires
     passes-ok-requires
     and-requires-2
-    blank-open-requires
-    or-requires
+    open-or-blank-requires
     and-requires-3
     and-requires-4
     returns)
