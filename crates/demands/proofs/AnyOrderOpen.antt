@@ -17,7 +17,7 @@ use Rattle.unit.specs.Hall.{Hall}
 use Rattle.unit.specs.Model.{Model}
 use Rattle.unit.specs.Sizes.{filtersLen, jobsLen, storeLen, workLen, coefficientsLen}
 use Rattle.unit.specs.Range.{inRange, linesOk, passesOk}
-use Rattle.unit.specs.Judges.{judged, storeOk, workOk, lentOk, givenOk, judgedGiven}
+use Rattle.judges.specs.Judges.{judged, storeOk, workOk, lentOk, givenOk, judgedGiven}
 use Rattle.frame.specs.Frame.{Frame, frameFrom, lineRows}
 use Rattle.frame.proofs.RowLaws.{length-filtersOf}
 use Rattle.jobs.specs.Play.{Play, apply, tail, isTail, filtersFor, inputFor, countFor, frameFor, wholeDue, opened, openWork}

@@ -16,7 +16,7 @@ use Rattle.samples.specs.Binary32.{+0}
 use Rattle.samples.proofs.Laws.{split-and, is-accepted, accept-no}
 use Rattle.unit.specs.Model.{Model}
 use Rattle.unit.specs.Sizes.{lineLengths}
-use Rattle.unit.specs.Judges.{judgedFresh, judgedReset}
+use Rattle.judges.specs.Judges.{judgedFresh, judgedReset}
 use Rattle.frame.specs.Settle.{frameFinite, settled, putRows}
 use Rattle.frame.specs.Frame.{newFilters}
 use Rattle.reverb.specs.Whole.{counted, after as played, wholeAnswer, wholeUnit, wholeStore, wholeWork}

@@ -105,18 +105,18 @@ use Rattle.wire.proofs.decode.Kinds as wire-decode-kinds
 use Rattle.wire.proofs.decode.Reads as wire-decode-reads
 use Rattle.wire.proofs.encode.Kinds as wire-encode-kinds
 use Rattle.wire.proofs.encode.Reads as wire-encode-reads
-use Rattle.unit.proofs.judge.Kinds as unit-judge-kinds
-use Rattle.unit.proofs.judge.Reads as unit-judge-reads
-use Rattle.unit.proofs.judge_fresh.Kinds as unit-judge-fresh-kinds
-use Rattle.unit.proofs.judge_fresh.Reads as unit-judge-fresh-reads
-use Rattle.unit.proofs.judge_reset.Kinds as unit-judge-reset-kinds
-use Rattle.unit.proofs.judge_reset.Reads as unit-judge-reset-reads
-use Rattle.unit.proofs.judge_tail.Kinds as unit-judge-tail-kinds
-use Rattle.unit.proofs.judge_tail.Reads as unit-judge-tail-reads
-use Rattle.unit.proofs.judge_apply.Kinds as unit-judge-apply-kinds
-use Rattle.unit.proofs.judge_apply.Reads as unit-judge-apply-reads
-use Rattle.unit.proofs.judge_given.Kinds as unit-judge-given-kinds
-use Rattle.unit.proofs.judge_given.Reads as unit-judge-given-reads
+use Rattle.judges.proofs.judge.Kinds as judges-judge-kinds
+use Rattle.judges.proofs.judge.Reads as judges-judge-reads
+use Rattle.judges.proofs.judge_fresh.Kinds as judges-judge-fresh-kinds
+use Rattle.judges.proofs.judge_fresh.Reads as judges-judge-fresh-reads
+use Rattle.judges.proofs.judge_reset.Kinds as judges-judge-reset-kinds
+use Rattle.judges.proofs.judge_reset.Reads as judges-judge-reset-reads
+use Rattle.judges.proofs.judge_tail.Kinds as judges-judge-tail-kinds
+use Rattle.judges.proofs.judge_tail.Reads as judges-judge-tail-reads
+use Rattle.judges.proofs.judge_apply.Kinds as judges-judge-apply-kinds
+use Rattle.judges.proofs.judge_apply.Reads as judges-judge-apply-reads
+use Rattle.judges.proofs.judge_given.Kinds as judges-judge-given-kinds
+use Rattle.judges.proofs.judge_given.Reads as judges-judge-given-reads
 use Rattle.unit.proofs.room_ok.Kinds as unit-room-ok-kinds
 use Rattle.unit.proofs.room_ok.Reads as unit-room-ok-reads
 use Rattle.unit.proofs.fresh_state.Kinds as unit-fresh-state-kinds
@@ -151,8 +151,8 @@ use Rattle.reverb.proofs.tail.Kinds as reverb-tail-kinds
 use Rattle.reverb.proofs.tail.Reads as reverb-tail-reads
 use Rattle.unit.proofs.lent_ok.Kinds as unit-lent-ok-kinds
 use Rattle.unit.proofs.lent_ok.Reads as unit-lent-ok-reads
-use Rattle.unit.proofs.or_else.Kinds as unit-or-else-kinds
-use Rattle.unit.proofs.or_else.Reads as unit-or-else-reads
+use Rattle.judges.proofs.or_else.Kinds as judges-or-else-kinds
+use Rattle.judges.proofs.or_else.Reads as judges-or-else-reads
 use Rattle.turns.proofs.judge_open_apply.Kinds as turns-judge-open-apply-kinds
 use Rattle.turns.proofs.judge_open_apply.Reads as turns-judge-open-apply-reads
 use Rattle.turns.proofs.judge_open_tail.Kinds as turns-judge-open-tail-kinds
@@ -421,23 +421,23 @@ wire-encode-out κs a x y s t p q = p ∙ sym (q)
 
 -- ---- unit
 
-pub unit-judge : OneResult 0 unit-judge-kinds.ps unit-judge-kinds.r unit-judge-reads.Post
-unit-judge κs a x y s t p q = p ∙ sym (q)
+pub judges-judge : OneResult 0 judges-judge-kinds.ps judges-judge-kinds.r judges-judge-reads.Post
+judges-judge κs a x y s t p q = p ∙ sym (q)
 
-pub unit-judge-fresh : OneResult 0 unit-judge-fresh-kinds.ps unit-judge-fresh-kinds.r unit-judge-fresh-reads.Post
-unit-judge-fresh κs a x y s t p q = p ∙ sym (q)
+pub judges-judge-fresh : OneResult 0 judges-judge-fresh-kinds.ps judges-judge-fresh-kinds.r judges-judge-fresh-reads.Post
+judges-judge-fresh κs a x y s t p q = p ∙ sym (q)
 
-pub unit-judge-reset : OneResult 0 unit-judge-reset-kinds.ps unit-judge-reset-kinds.r unit-judge-reset-reads.Post
-unit-judge-reset κs a x y s t p q = p ∙ sym (q)
+pub judges-judge-reset : OneResult 0 judges-judge-reset-kinds.ps judges-judge-reset-kinds.r judges-judge-reset-reads.Post
+judges-judge-reset κs a x y s t p q = p ∙ sym (q)
 
-pub unit-judge-tail : OneResult 0 unit-judge-tail-kinds.ps unit-judge-tail-kinds.r unit-judge-tail-reads.Post
-unit-judge-tail κs a x y s t p q = p ∙ sym (q)
+pub judges-judge-tail : OneResult 0 judges-judge-tail-kinds.ps judges-judge-tail-kinds.r judges-judge-tail-reads.Post
+judges-judge-tail κs a x y s t p q = p ∙ sym (q)
 
-pub unit-judge-apply : OneResult 2 unit-judge-apply-kinds.ps unit-judge-apply-kinds.r unit-judge-apply-reads.Post
-unit-judge-apply κs a x y s t p q = p ∙ sym (q)
+pub judges-judge-apply : OneResult 2 judges-judge-apply-kinds.ps judges-judge-apply-kinds.r judges-judge-apply-reads.Post
+judges-judge-apply κs a x y s t p q = p ∙ sym (q)
 
-pub unit-judge-given : OneResult 2 unit-judge-given-kinds.ps unit-judge-given-kinds.r unit-judge-given-reads.Post
-unit-judge-given κs a x y s t p q = p ∙ sym (q)
+pub judges-judge-given : OneResult 2 judges-judge-given-kinds.ps judges-judge-given-kinds.r judges-judge-given-reads.Post
+judges-judge-given κs a x y s t p q = p ∙ sym (q)
 
 pub unit-room-ok : OneResult 0 unit-room-ok-kinds.ps unit-room-ok-kinds.r unit-room-ok-reads.Post
 unit-room-ok κs a x y s t p q = p ∙ sym (q)
@@ -457,8 +457,8 @@ unit-work-ok κs a x y s t p q = p ∙ sym (q)
 pub unit-lent-ok : OneResult 0 unit-lent-ok-kinds.ps unit-lent-ok-kinds.r unit-lent-ok-reads.Post
 unit-lent-ok κs a x y s t p q = p ∙ sym (q)
 
-pub unit-or-else : OneResult 0 unit-or-else-kinds.ps unit-or-else-kinds.r unit-or-else-reads.Post
-unit-or-else κs a x y s t p q = p ∙ sym (q)
+pub judges-or-else : OneResult 0 judges-or-else-kinds.ps judges-or-else-kinds.r judges-or-else-reads.Post
+judges-or-else κs a x y s t p q = p ∙ sym (q)
 
 -- ---- frame
 

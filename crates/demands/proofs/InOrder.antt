@@ -18,7 +18,7 @@ use Rattle.samples.proofs.Laws.{join-and}
 use Rattle.unit.specs.Model.{Model}
 use Rattle.unit.specs.Sizes.{jobsLen}
 use Rattle.unit.specs.Range.{inRange}
-use Rattle.unit.specs.Judges.{storeOk, workOk}
+use Rattle.judges.specs.Judges.{storeOk, workOk}
 use Rattle.turns.specs.Marks.{mixMark, lineMark, outputMark, allDone, allRead}
 use Rattle.rows.specs.Rows.{joined}
 use Rattle.jobs.specs.Play.{Play}

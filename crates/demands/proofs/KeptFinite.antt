@@ -23,7 +23,7 @@ use Rattle.unit.specs.Hall.{Hall}
 use Rattle.unit.specs.Model.{Model}
 use Rattle.unit.specs.Sizes.{filtersLen}
 use Rattle.unit.specs.Fresh.{blank, freshHall}
-use Rattle.unit.specs.Judges.{judgedFresh, judgedReset}
+use Rattle.judges.specs.Judges.{judgedFresh, judgedReset}
 use Rattle.frame.specs.Frame.{Frame, newFilters}
 use Rattle.frame.specs.Settle.{filtersFinite, frameFinite, nineOf, putRows, settledIn}
 use Rattle.reverb.specs.Whole.{wholeAnswer, wholeUnit, wholeStore}

@@ -21,7 +21,7 @@ use Rattle.unit.specs.Hall.{Hall}
 use Rattle.unit.specs.Model.{Model}
 use Rattle.unit.specs.Sizes.{coefficientsLen, filtersLen, storeLen, workLen}
 use Rattle.unit.specs.Range.{inRange, linesOk, passesOk, below}
-use Rattle.unit.specs.Judges.{judged, judgedFresh, judgedReset, judgedGiven, givenOk, lentOk, storeOk, workOk}
+use Rattle.judges.specs.Judges.{judged, judgedFresh, judgedReset, judgedGiven, givenOk, lentOk, storeOk, workOk}
 use Rattle.frame.specs.Lines.{filtersOf}
 use Rattle.frame.specs.Frame.{frameFrom}
 use Rattle.frame.proofs.FrameLaws.{put-long}

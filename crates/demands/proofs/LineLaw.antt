@@ -25,7 +25,7 @@ use Rattle.unit.specs.Hall.{Hall}
 use Rattle.unit.specs.Model.{Model}
 use Rattle.unit.specs.Sizes.{lineLengths, jobsLen, storeLen, workLen}
 use Rattle.unit.specs.Fresh.{freshHall}
-use Rattle.unit.specs.Judges.{storeOk, workOk}
+use Rattle.judges.specs.Judges.{storeOk, workOk}
 use Rattle.frame.specs.Frame.{frameFrom, newFilters}
 use Rattle.frame.specs.Settle.{nineOf, settled, settledIn, allMoved, putRows}
 use Rattle.reverb.specs.Whole.{after as played, counted, wholeAnswer, wholeUnit, wholeStore}

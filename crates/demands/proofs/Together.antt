@@ -11,7 +11,7 @@ use Rattle.unit.specs.Hall.{Hall}
 use Rattle.unit.specs.Model.{Model}
 use Rattle.unit.specs.Sizes.{lineLengths}
 use Rattle.unit.specs.Fresh.{freshHall}
-use Rattle.unit.specs.Judges.{judgedFresh, judgedReset}
+use Rattle.judges.specs.Judges.{judgedFresh, judgedReset}
 use Rattle.frame.specs.Settle.{allMoved}
 use Rattle.reverb.specs.Whole.{wholeUnit}
 use Rattle.rows.specs.Rows.{rowsOf}

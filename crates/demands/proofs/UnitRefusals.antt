@@ -22,7 +22,7 @@ use Rattle.unit.specs.declared.State.{State}
 use Rattle.unit.specs.Hall.{Hall, ofState, toState}
 use Rattle.unit.specs.Model.{wall}
 use Rattle.unit.specs.Range.{inRange}
-use Rattle.unit.specs.Judges.{judged, judgedFresh, judgedReset, judgedTail, judgedApply, judgedGiven, badInput, givenOk, lentOk}
+use Rattle.judges.specs.Judges.{judged, judgedFresh, judgedReset, judgedTail, judgedApply, judgedGiven, badInput, givenOk, lentOk}
 use Rattle.frame.specs.Frame.{Frame, newFilters}
 use Rattle.frame.specs.Settle.{frameFinite, settled, fallen}
 use Rattle.reverb.specs.declared.Outcome.{Outcome}

@@ -8,7 +8,7 @@ use Rattle.audio_buffer.specs.declared.AudioEffectState.{AudioEffectState}
 use Rattle.audio_buffer.specs.declared.AudioEffectState.the-variants.{TailComplete}
 use Rattle.audio_buffer.specs.Verdict.{verdictOf}
 use Rattle.unit.specs.Model.{Model}
-use Rattle.unit.specs.Judges.{judgedReset}
+use Rattle.judges.specs.Judges.{judgedReset}
 use Rattle.reverb.specs.Whole.{resetUnit, resetStore, wholeAnswer, wholeUnit, wholeStore, wholeOutput, wholeWork}
 use Rattle.rows.specs.Rows.{rowsOf}
 use Rattle.turns.specs.Turns.{judgedClose, judgedAbandon}

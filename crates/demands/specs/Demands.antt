@@ -9,7 +9,7 @@ use Rattle.samples.specs.Search.{allFinite}
 use Rattle.iir.specs.declared.Filter.{Filter}
 use Rattle.unit.specs.Hall.{Hall}
 use Rattle.unit.specs.Model.{Model}
-use Rattle.unit.specs.Judges.{judgedFresh}
+use Rattle.judges.specs.Judges.{judgedFresh}
 use Rattle.frame.specs.Settle.{filtersFinite}
 use Rattle.demands.specs.Jobs.{Memory}
 use Rattle.demands.specs.Runs.{Event, begun, run}

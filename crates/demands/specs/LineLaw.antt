@@ -14,7 +14,7 @@ use Rattle.samples.specs.Binary32.{+0}
 use Rattle.delay.specs.Calls.{both}
 use Rattle.unit.specs.Hall.{Hall}
 use Rattle.unit.specs.Model.{Model}
-use Rattle.unit.specs.Judges.{judgedFresh}
+use Rattle.judges.specs.Judges.{judgedFresh}
 use Rattle.unit.specs.Sizes.{Sized}
 use Rattle.rows.specs.Rows.{rowsOf}
 use Rattle.jobs.specs.Play.{Play, frameFor}

@@ -8,7 +8,7 @@ use lib.ListN.{length}
 use Rattle.samples.specs.declared.Answer.{Answer}
 use Rattle.samples.specs.Answers.{numberOf}
 use Rattle.unit.specs.Model.{Model}
-use Rattle.unit.specs.Judges.{judgedFresh}
+use Rattle.judges.specs.Judges.{judgedFresh}
 use Rattle.reverb.specs.Whole.{freshStore}
 use Rattle.demands.specs.Jobs.{Memory}
 use Rattle.demands.specs.Calls.{Call, answer, after}

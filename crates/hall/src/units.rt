@@ -8,7 +8,7 @@ ghost use lib.ListN.{length};
 ghost use Rattle.audio_buffer.specs.declared.AudioEffectState.the-variants.{TailComplete};
 ghost use Rattle.unit.specs.Hall.{ofState};
 ghost use Rattle.unit.specs.Model.{wall};
-ghost use Rattle.unit.specs.Judges.{judgedFresh, judgedReset, judgedTail, judgedApply};
+ghost use Rattle.judges.specs.Judges.{judgedFresh, judgedReset, judgedTail, judgedApply};
 ghost use Rattle.frame.specs.Settle.{fallen};
 ghost use Rattle.reverb.specs.Whole.{outcome, freshUnit, freshStore, resetUnit, resetStore, applyFrame, applyCount, tailFrame, wholeOutcome, wholeStore, wholeWork, wholeOutput};
 ghost use Rattle.hall.specs.Face.{faced, times};

@@ -22,7 +22,7 @@ use Rattle.unit.specs.Hall.{Hall}
 use Rattle.unit.specs.Model.{wall}
 use Rattle.unit.specs.Sizes.{storeLen}
 use Rattle.unit.specs.Range.{inRange, linesOk}
-use Rattle.unit.specs.Judges.{judged, workOk}
+use Rattle.judges.specs.Judges.{judged, workOk}
 use Rattle.rows.specs.Rows.{rowsOf, joined}
 use Rattle.rows.specs.Fits.{workFor, WorkFits}
 use Rattle.rows.specs.Parts.{lineLaid, lineEnds, outputLaid, outputEnds}

@@ -16,7 +16,7 @@ use Rattle.samples.proofs.Turns.{middle}
 use Rattle.unit.specs.Hall.{Hall}
 use Rattle.unit.specs.Model.{wall}
 use Rattle.unit.specs.Sizes.{lineLengths, total, storeLen}
-use Rattle.unit.specs.Judges.{storeOk, workOk}
+use Rattle.judges.specs.Judges.{storeOk, workOk}
 use Rattle.frame.specs.Steps.{copied}
 use Rattle.frame.proofs.RowLaws.{copied-all}
 use Rattle.rows.specs.Fits.{WorkFits}

@@ -12,7 +12,7 @@ use Rattle.bands.specs.declared.Times.{Times}
 use Rattle.unit.specs.Hall.{Hall}
 use Rattle.unit.specs.Model.{Model}
 use Rattle.unit.specs.Sizes.{filtersLen, jobsLen}
-use Rattle.unit.specs.Judges.{judgedApply, judgedTail}
+use Rattle.judges.specs.Judges.{judgedApply, judgedTail}
 use Rattle.frame.specs.Lines.{filtersOf}
 use Rattle.frame.specs.Frame.{Frame, passesIn}
 use Rattle.frame.specs.Settle.{fallen}

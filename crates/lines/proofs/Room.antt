@@ -21,7 +21,7 @@ use Rattle.primes.proofs.Table.{delay-range}
 use Rattle.unit.specs.Model.{Model, wall}
 use Rattle.unit.specs.Sizes.{lengthsFrom, lineLengths, total, storeLen, workLen}
 use Rattle.unit.specs.Range.{below, linesOk, passesOk}
-use Rattle.unit.specs.Judges.{roomOk}
+use Rattle.unit.specs.Room.{roomOk}
 use Rattle.rows.proofs.RowsOf.{work-parts}
 use Rattle.frame.specs.Frame.{Frame, frameFrom, frameIn}
 use Rattle.frame.specs.Settle.{allMoved}

@@ -29,7 +29,7 @@ ghost use lib.ListN.{length, take, replicate};
 ghost use Rattle.unit.specs.Fresh.{blank};
 ghost use Rattle.unit.specs.Model.{wall};
 ghost use Rattle.unit.specs.Sizes.{lineLengths, storeLen};
-ghost use Rattle.unit.specs.Judges.{roomOk};
+ghost use Rattle.unit.specs.Room.{roomOk};
 ghost use Rattle.frame.specs.Lines.{filtersOf};
 ghost use Rattle.frame.specs.Frame.{frameIn};
 ghost use Rattle.lines.specs.Work.{Within, WholeFits};

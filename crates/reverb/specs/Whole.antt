@@ -19,7 +19,7 @@ use Rattle.unit.specs.Hall.{Hall, toState}
 use Rattle.unit.specs.Model.{Model}
 use Rattle.unit.specs.Sizes.{lineLengths, filtersLen}
 use Rattle.unit.specs.Fresh.{freshHall}
-use Rattle.unit.specs.Judges.{judgedFresh, judgedReset}
+use Rattle.judges.specs.Judges.{judgedFresh, judgedReset}
 use Rattle.frame.specs.Lines.{filtersOf}
 use Rattle.frame.specs.Frame.{Frame, newFilters, frameOf}
 use Rattle.frame.specs.Settle.{nineOf, settled, allMoved}

@@ -17,7 +17,7 @@ ghost use Rattle.audio_buffer.specs.declared.AudioEffectState.the-variants.{Tai
 ghost use Rattle.audio_buffer.specs.Verdict.{verdictOf};
 ghost use Rattle.unit.specs.Hall.{ofState, toState};
 ghost use Rattle.unit.specs.Model.{wall};
-ghost use Rattle.unit.specs.Judges.{roomOk};
+ghost use Rattle.unit.specs.Room.{roomOk};
 ghost use Rattle.frame.specs.Frame.{frameOf};
 ghost use Rattle.frame.specs.Settle.{fallen};
 ghost use Rattle.reverb.specs.Whole.{movedOn, outcome, wholeOutcome, wholeStore, wholeOutput};

@@ -8,7 +8,7 @@ use Rattle.samples.specs.declared.Answer.{Answer}
 use Rattle.bands.specs.declared.Times.{Times}
 use Rattle.unit.specs.Hall.{Hall}
 use Rattle.unit.specs.Model.{wall}
-use Rattle.unit.specs.Judges.{judgedApply, judgedTail}
+use Rattle.judges.specs.Judges.{judgedApply, judgedTail}
 use Rattle.frame.specs.Frame.{Frame}
 use Rattle.reverb.specs.declared.Outcome.{Outcome}
 use Rattle.reverb.specs.Whole.{applyFrame, wholeOutcome, wholeStore, wholeWork, wholeOutput}

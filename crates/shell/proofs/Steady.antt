@@ -24,7 +24,7 @@ use Rattle.unit.specs.Model.{wall}
 use Rattle.unit.specs.Fresh.{freshHall}
 use Rattle.unit.specs.Sizes.{lengthsFrom, lineLengths, total, storeLen, workLen}
 use Rattle.unit.specs.Range.{below, linesOk, passesOk, unmarked, blankFilters, blankOpen, inRange}
-use Rattle.unit.specs.Judges.{judged}
+use Rattle.judges.specs.Judges.{judged}
 use Rattle.frame.specs.Frame.{Frame, newFilters}
 use Rattle.frame.specs.Settle.{movedBy, allMoved}
 use Rattle.reverb.specs.Whole.{after, wholeAnswer, wholeUnit}

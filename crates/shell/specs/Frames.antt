@@ -9,7 +9,7 @@ use Rattle.samples.specs.Answers.{accept}
 use Rattle.wire.specs.Wire.{decoded, encoded}
 use Rattle.unit.specs.Hall.{Hall}
 use Rattle.unit.specs.Model.{wall}
-use Rattle.unit.specs.Judges.{judgedApply, judgedTail}
+use Rattle.judges.specs.Judges.{judgedApply, judgedTail}
 use Rattle.frame.specs.Frame.{Frame}
 use Rattle.frame.specs.Settle.{fallen}
 use Rattle.reverb.specs.declared.Outcome.{Outcome}

@@ -10,7 +10,7 @@ use Rattle.samples.specs.Search.{firstBad}
 use Rattle.unit.specs.Hall.{Hall, ofState}
 use Rattle.unit.specs.Model.{wall}
 use Rattle.unit.specs.Fresh.{freshHall}
-use Rattle.unit.specs.Judges.{badInput}
+use Rattle.judges.specs.Judges.{badInput}
 use Rattle.shell.specs.Settings.{frame, rate}
 use Rattle.shell.specs.Frames.{heard, inputDue, inputOutcome, tailDue, tailOutcome}
 

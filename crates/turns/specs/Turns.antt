@@ -11,7 +11,7 @@ use Rattle.samples.specs.Answers.{orElse}
 use Rattle.bands.specs.declared.Times.{Times}
 use Rattle.unit.specs.Hall.{Hall}
 use Rattle.unit.specs.Model.{Model}
-use Rattle.unit.specs.Judges.{judged, storeOk, workOk, lentOk, givenOk, judgedGiven}
+use Rattle.judges.specs.Judges.{judged, storeOk, workOk, lentOk, givenOk, judgedGiven}
 use Rattle.turns.specs.Marks.{mixMark, lineMark, outputMark, marked, allDone, allRead}
 
 -- "Open (apply or tail; input, times, coefficients given here)". Apply: 1 3 5 6 7 8

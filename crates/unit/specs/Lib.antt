@@ -3,4 +3,4 @@ pub mod Model
 pub mod Sizes
 pub mod Fresh
 pub mod Range
-pub mod Judges
+pub mod Room

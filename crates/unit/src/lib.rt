@@ -1,21 +1,13 @@
-// The unit's state by value, the sizes of the memory that it is lent, when it is in range, and what
-// is due of a call.
+// The unit's state by value, when it is in range, and the sizes of the memory that it is lent.
 //
 // Its contracts cite `specs/`, over any model of the unit: the code here is the wall unit's.
-mod judges;
 mod range;
+mod room;
 mod sizes;
 
-pub use judges::judge;
-pub use judges::judge_apply;
-pub use judges::judge_fresh;
-pub use judges::judge_given;
-pub use judges::judge_reset;
-pub use judges::judge_tail;
-pub use judges::lent_ok;
-pub use judges::or_else;
-pub use judges::room_ok;
 pub use range::in_range;
+pub use room::lent_ok;
+pub use room::room_ok;
 pub use sizes::PASSES;
 pub use sizes::store_ok;
 pub use sizes::work_ok;

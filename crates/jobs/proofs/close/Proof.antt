@@ -6,7 +6,7 @@ use lib.ListN.{length}
 use Rattle.samples.proofs.Laws.{is-accepted}
 use Rattle.unit.specs.Hall.{ofState}
 use Rattle.unit.specs.Model.{wall}
-use Rattle.unit.specs.Judges.{lentOk}
+use Rattle.judges.specs.Judges.{lentOk}
 use Rattle.turns.specs.Marks.{allDone}
 use Rattle.turns.specs.Turns.{judgedClose}
 use Rattle.rows.specs.Rows.{rowsOf}

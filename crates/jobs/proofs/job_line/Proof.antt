@@ -15,7 +15,7 @@ use Rattle.audio_buffer.specs.declared.AudioEffectState.the-variants.{TailCompl
 use Rattle.iir.specs.declared.Filter.{Filter}
 use Rattle.unit.specs.Hall.{Hall, ofState, toState}
 use Rattle.unit.specs.Model.{wall}
-use Rattle.unit.specs.Judges.{workOk}
+use Rattle.judges.specs.Judges.{workOk}
 use Rattle.turns.specs.Marks.{mixMark, lineMark, marked}
 use Rattle.turns.specs.Turns.{judgedLine}
 use Rattle.rows.specs.Fits.{workFor}

@@ -8,7 +8,7 @@ use Rattle.samples.proofs.Laws.{is-accepted}
 use Rattle.audio_buffer.specs.declared.AudioEffectState.the-variants.{TailComplete}
 use Rattle.unit.specs.Hall.{ofState}
 use Rattle.unit.specs.Model.{wall}
-use Rattle.unit.specs.Judges.{workOk}
+use Rattle.judges.specs.Judges.{workOk}
 use Rattle.turns.specs.Marks.{mixMark, marked, allRead}
 use Rattle.turns.specs.Turns.{judgedMix}
 use Rattle.rows.proofs.RowsOf.{work-fits}

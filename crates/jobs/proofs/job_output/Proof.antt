@@ -10,7 +10,7 @@ use Rattle.audio_buffer.specs.declared.AudioEffectState.the-variants.{TailCompl
 use Rattle.iir.specs.declared.Filter.{Filter}
 use Rattle.unit.specs.Hall.{ofState, toState}
 use Rattle.unit.specs.Model.{wall}
-use Rattle.unit.specs.Judges.{workOk}
+use Rattle.judges.specs.Judges.{workOk}
 use Rattle.turns.specs.Marks.{outputMark, marked, allRead}
 use Rattle.turns.specs.Turns.{judgedOutput}
 use Rattle.reverb.specs.Whole.{outcome}

@@ -14,7 +14,7 @@ use Rattle.audio_buffer.specs.declared.AudioEffectState.the-variants.{TailCompl
 use Rattle.unit.specs.Hall.{Hall, ofState}
 use Rattle.unit.specs.Model.{wall}
 use Rattle.unit.specs.Range.{linesOk, passesOk}
-use Rattle.unit.specs.Judges.{storeOk, workOk}
+use Rattle.judges.specs.Judges.{storeOk, workOk}
 use Rattle.turns.specs.Marks.{marked}
 use Rattle.turns.specs.Turns.{judgedRead}
 use Rattle.rows.specs.Fits.{workFor}

@@ -10,7 +10,7 @@ use Rattle.audio_buffer.specs.declared.AudioEffectState.the-variants.{TailCompl
 use Rattle.bands.specs.declared.Counted.{Counted}
 use Rattle.unit.specs.Hall.{ofState}
 use Rattle.unit.specs.Model.{wall}
-use Rattle.unit.specs.Judges.{storeOk, workOk}
+use Rattle.judges.specs.Judges.{storeOk, workOk}
 use Rattle.reverb.specs.Whole.{outcome}
 use Rattle.reverb.proofs.Outcomes.{old-left, new-left, let-by}
 use Rattle.reverb.proofs.WholeParts.{filters-given}

@@ -11,7 +11,7 @@ use Rattle.samples.proofs.Laws.{is-accepted}
 use Rattle.audio_buffer.specs.declared.AudioEffectState.the-variants.{TailComplete}
 use Rattle.unit.specs.Hall.{ofState}
 use Rattle.unit.specs.Model.{wall}
-use Rattle.unit.specs.Judges.{storeOk, workOk}
+use Rattle.judges.specs.Judges.{storeOk, workOk}
 use Rattle.reverb.specs.Whole.{outcome}
 use Rattle.reverb.proofs.Fits.{due-of}
 use Rattle.reverb.proofs.Outcomes.{old-left, new-left, let-by}

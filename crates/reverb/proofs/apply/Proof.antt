@@ -9,7 +9,7 @@ use Rattle.samples.specs.Answers.{accepted}
 use Rattle.bands.specs.declared.Counted.{Counted}
 use Rattle.unit.specs.Hall.{ofState}
 use Rattle.unit.specs.Model.{wall}
-use Rattle.unit.specs.Judges.{judgedApply}
+use Rattle.judges.specs.Judges.{judgedApply}
 use Rattle.reverb.specs.Whole.{applyFrame, applyCount}
 use Rattle.reverb.proofs.Fits.{ApplyFits, apply-fits}
 use Rattle.reverb.proofs.Outcomes.{refused, let-by}
@@ -19,7 +19,7 @@ use Rattle.reverb.proofs.apply.Statement.{statement}
 use Rattle.reverb.proofs.apply.Tie as tie
 use Rattle.reverb.proofs.apply.Reads as reads
 use Rattle.reverb.proofs.apply.Lts as lts
-use Rattle.unit.proofs.judge_apply.Reads as judge-apply-reads
+use Rattle.judges.proofs.judge_apply.Reads as judge-apply-reads
 use Rattle.samples.proofs.is_accepted.Reads as is-accepted-reads
 use Rattle.reverb.proofs.units.quiet.Reads as quiet-reads
 use Rattle.bands.proofs.tail_count.Reads as tail-count-reads

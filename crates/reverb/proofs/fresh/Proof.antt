@@ -8,7 +8,7 @@ use Rattle.audio_buffer.specs.declared.AudioEffectState.the-variants.{TailCompl
 use Rattle.unit.specs.Hall.{ofState}
 use Rattle.unit.specs.Model.{wall}
 use Rattle.unit.specs.Fresh.{freshHall}
-use Rattle.unit.specs.Judges.{judgedFresh}
+use Rattle.judges.specs.Judges.{judgedFresh}
 use Rattle.reverb.specs.Whole.{outcome}
 use Rattle.reverb.proofs.Outcomes.{old-left, new-left}
 use Rattle.reverb.proofs.fresh.Statement.{statement}

@@ -8,7 +8,7 @@ use Rattle.samples.specs.Binary32.{+0}
 use Rattle.audio_buffer.specs.declared.AudioEffectState.the-variants.{TailComplete}
 use Rattle.unit.specs.Hall.{ofState}
 use Rattle.unit.specs.Model.{wall}
-use Rattle.unit.specs.Judges.{judgedReset}
+use Rattle.judges.specs.Judges.{judgedReset}
 use Rattle.reverb.specs.Whole.{outcome, counted}
 use Rattle.reverb.proofs.Outcomes.{old-left, new-left}
 use Rattle.reverb.proofs.reset.Statement.{statement}

@@ -7,7 +7,7 @@ use denote.Ref.{now}
 use Rattle.samples.specs.declared.Frames.{Frames}
 use Rattle.unit.specs.Hall.{ofState}
 use Rattle.unit.specs.Model.{wall}
-use Rattle.unit.specs.Judges.{judgedTail, lentOk}
+use Rattle.judges.specs.Judges.{judgedTail, lentOk}
 use Rattle.frame.specs.Settle.{fallen}
 use Rattle.reverb.specs.Whole.{tailFrame}
 use Rattle.reverb.proofs.Fits.{due-of, room-of}

@@ -8,7 +8,7 @@ use Rattle.samples.specs.declared.Answer.the-variants.{Accepted}
 use Rattle.samples.specs.Sizes.{rateOk, frameOk}
 use Rattle.unit.specs.Model.{wall}
 use Rattle.unit.specs.Sizes.{lengthsFrom, total, storeLen}
-use Rattle.unit.specs.Judges.{judgedFresh}
+use Rattle.judges.specs.Judges.{judgedFresh}
 use Rattle.shell.specs.Settings.{frame, rate, storeFloats}
 use Rattle.shell.proofs.start.Statement.{statement}
 use Rattle.shell.proofs.start.Tie as tie

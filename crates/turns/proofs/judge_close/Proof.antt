@@ -4,7 +4,7 @@ use mathlib.Core.Path.{_∙_}
 use mathlib.Core.Bool.{true, _&&_}
 use Rattle.unit.specs.Hall.{ofState}
 use Rattle.unit.specs.Model.{wall}
-use Rattle.unit.specs.Judges.{judged}
+use Rattle.judges.specs.Judges.{judged}
 use Rattle.turns.proofs.judge_close.Statement.{statement}
 use Rattle.turns.proofs.judge_close.Tie as tie
 

@@ -5,7 +5,7 @@ use mathlib.Core.Bool.{Bool, true, not, _&&_}
 use Rattle.samples.specs.Answers.{orElse}
 use Rattle.unit.specs.Hall.{ofState}
 use Rattle.unit.specs.Model.{wall}
-use Rattle.unit.specs.Judges.{judged}
+use Rattle.judges.specs.Judges.{judged}
 use Rattle.turns.proofs.judge_open_apply.Statement.{statement}
 use Rattle.turns.proofs.judge_open_apply.Tie as tie
 

@@ -4,7 +4,7 @@ use mathlib.Core.Path.{ap, _∙_}
 use mathlib.Core.Bool.{Bool, true, not, _&&_}
 use Rattle.unit.specs.Hall.{ofState}
 use Rattle.unit.specs.Model.{wall}
-use Rattle.unit.specs.Judges.{judged}
+use Rattle.judges.specs.Judges.{judged}
 use Rattle.turns.proofs.judge_open_tail.Statement.{statement}
 use Rattle.turns.proofs.judge_open_tail.Tie as tie
 

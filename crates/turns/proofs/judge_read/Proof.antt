@@ -5,7 +5,7 @@ use mathlib.Core.Bool.{not, _&&_}
 use lib.Dec.{ltb}
 use Rattle.unit.specs.Hall.{ofState}
 use Rattle.unit.specs.Model.{wall}
-use Rattle.unit.specs.Judges.{judged}
+use Rattle.judges.specs.Judges.{judged}
 use Rattle.turns.proofs.judge_read.Statement.{statement}
 use Rattle.turns.proofs.judge_read.Tie as tie
 

@@ -1,0 +1,51 @@
+-- `judges::judge_apply` meets its contract. Assumes nothing.
+use borrow.Author.Needs.{needs}
+use mathlib.Core.Path.{ap, _∙_}
+use mathlib.Core.Bool.{Bool, true, not, _&&_}
+use Rattle.samples.specs.Answers.{orElse}
+use Rattle.unit.specs.Hall.{ofState}
+use Rattle.unit.specs.Model.{wall}
+use Rattle.judges.specs.Judges.{judged}
+use Rattle.judges.proofs.judge_apply.Statement.{statement}
+use Rattle.judges.proofs.judge_apply.Tie as tie
+
+and-requires : tie.Need-and-requires
+and-requires c κs = search needs
+
+lent-ok-requires : tie.Need-lent-ok-requires
+lent-ok-requires c κs = search needs
+
+and-requires-2 : tie.Need-and-requires-2
+and-requires-2 c κs = search needs
+
+judge-requires : tie.Need-judge-requires
+judge-requires c κs = search needs
+
+judge-given-requires : tie.Need-judge-given-requires
+judge-given-requires c κs = search needs
+
+or-else-requires : tie.Need-or-else-requires
+or-else-requires c κs = search needs
+
+returns : tie.Need-returns
+returns c =
+    let given = c .before in
+    let judge = given .before in
+    let both = judge .before in
+    let lent = both .before in
+    let s = lent .before .before .before .before .args .s in
+    let lengths = both .and2 .ensures ∙ (λ i. lent .before .and .ensures i && lent .lent-ok .ensures i) in
+    let due = judge .judge .ensures ∙ ap (λ (b : Bool). judged wall (ofState s) b true (not (s .busy))) lengths in
+    c .or-else .ensures ∙ (λ i. orElse (due i) (given .judge-given .ensures i))
+
+pub judge-apply-spec : {M : Type 1} → statement M
+judge-apply-spec =
+    tie.close
+    (tie.spec
+    and-requires
+    lent-ok-requires
+    and-requires-2
+    judge-requires
+    judge-given-requires
+    or-else-requires
+    returns)

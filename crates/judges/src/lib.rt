@@ -1,0 +1,126 @@
+// What is due of a whole call: the lowest number that applies.
+//
+// Its contracts cite `specs/`, over any model of the unit.
+use bands::Times;
+use bands::times_ok;
+use samples::Answer;
+use samples::Found;
+use samples::all_finite;
+use samples::and;
+use samples::first_bad;
+use samples::frame_ok;
+use samples::is_accepted;
+use samples::need;
+use samples::rate_ok;
+use unit::State;
+use unit::in_range;
+use unit::lent_ok;
+use unit::store_ok;
+ghost use mathlib.Core.Path.{_≡_};
+ghost use Rattle.samples.specs.Answers.{orElse};
+ghost use Rattle.unit.specs.Hall.{ofState};
+ghost use Rattle.unit.specs.Model.{wall};
+ghost use Rattle.judges.specs.Judges.{judged, judgedFresh, judgedReset, judgedTail, judgedApply, judgedGiven, badInput};
+
+// A call on a state: `lengths` says that every lent slice has its length, `line` that the line is
+// one of the unit's, and `turn` that it is the call's turn.
+pub fn judge(s: State, lengths: bool, line: bool, turn: bool) -> Answer
+    ensures { λ r. ⌜ r ≡ judged wall (ofState s) lengths line turn ⌝ }
+{
+    need(
+        in_range(s),
+        Answer::BadState,
+        need(
+            lengths,
+            Answer::BadLength,
+            need(
+                line,
+                Answer::BadIndex,
+                need(turn, Answer::OutOfTurn, Answer::Accepted),
+            ),
+        ),
+    )
+}
+
+// A fresh unit.
+pub fn judge_fresh(rate: u32, frame: usize, store: usize) -> Answer
+    ensures { λ r. ⌜ r ≡ judgedFresh wall rate frame store ⌝ }
+{
+    need(
+        and(rate_ok(rate), frame_ok(frame)),
+        Answer::BadSize,
+        need(store_ok(frame, store), Answer::BadLength, Answer::Accepted),
+    )
+}
+
+// A reset.
+pub fn judge_reset(s: State, store: usize) -> Answer
+    ensures { λ r. ⌜ r ≡ judgedReset wall (ofState s) store ⌝ }
+{
+    let frame = s.frame;
+    let busy = s.busy;
+    judge(s, store_ok(frame, store), true, !busy)
+}
+
+// A whole tail, its output not judged yet.
+pub fn judge_tail(s: State, store: usize, work: usize, output: usize) -> Answer
+    ensures { λ r. ⌜ r ≡ judgedTail wall (ofState s) store work output ⌝ }
+{
+    let frame = s.frame;
+    let busy = s.busy;
+    judge(s, lent_ok(frame, store, work, output), true, !busy)
+}
+
+// A whole apply, its output not judged yet.
+pub fn judge_apply(
+    s: State,
+    t: Times,
+    coefficients: &[f32],
+    input: &[f32],
+    store: usize,
+    work: usize,
+    output: usize,
+) -> Answer
+    ensures { λ r. ⌜ r ≡ judgedApply wall (ofState s) t (now (coefficients .entry)) (now (input .entry)) store work output ⌝ }
+{
+    let frame = s.frame;
+    let busy = s.busy;
+    let given = and(coefficients.len() == 255, input.len() == frame);
+    let lengths = and(given, lent_ok(frame, store, work, output));
+    or_else(
+        judge(s, lengths, true, !busy),
+        judge_given(t, coefficients, input),
+    )
+}
+
+// What an apply is given: its times, its coefficients and its input.
+pub fn judge_given(t: Times, coefficients: &[f32], input: &[f32]) -> Answer
+    ensures { λ r. ⌜ r ≡ judgedGiven t (now (coefficients .entry)) (now (input .entry)) ⌝ }
+{
+    need(
+        times_ok(t),
+        Answer::BadTime,
+        need(
+            all_finite(coefficients, 5),
+            Answer::BadCoefficient,
+            bad_input(first_bad(input, 0)),
+        ),
+    )
+}
+
+// The answer to what a search of the input found.
+fn bad_input(f: Found) -> Answer
+    ensures { λ r. ⌜ r ≡ badInput f ⌝ }
+{
+    match f {
+        Found::At(i) => Answer::BadSample(i),
+        Found::Nothing => Answer::Accepted,
+    }
+}
+
+// A refusal, or what a later judgement says.
+pub fn or_else(a: Answer, b: Answer) -> Answer
+    ensures { λ r. ⌜ r ≡ orElse a b ⌝ }
+{
+    if is_accepted(a) { b } else { a }
+}
