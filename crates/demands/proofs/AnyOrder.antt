@@ -25,10 +25,10 @@ use Rattle.reverb.specs.Whole.{movedOn, after as played, wholeAnswer, wholeUnit
 use Rattle.turns.specs.Marks.{allDone}
 use Rattle.rows.specs.Rows.{Rows, rowsOf}
 use Rattle.turns.specs.Turns.{judgedClose}
-use Rattle.jobs.specs.Play.{Play, countFor, frameFor, wholeDue}
+use Rattle.opening.specs.Play.{Play, countFor, frameFor, wholeDue}
 use Rattle.lines.specs.Parts.{rowsFinite}
-use Rattle.jobs.specs.Close.{nineOfRows, idle as ended, closed, shut, cleared}
-use Rattle.jobs.specs.Close.{closeAnswer, closeVerdict, closeUnit, closeStore, closeOutput, closeWork}
+use Rattle.closing.specs.Close.{nineOfRows, idle as ended, closed, shut, cleared}
+use Rattle.closing.specs.Close.{closeAnswer, closeVerdict, closeUnit, closeStore, closeOutput, closeWork}
 use Rattle.demands.specs.Jobs.{Memory}
 use Rattle.demands.specs.Calls.{atOnce, closing, start, answer}
 use Rattle.demands.specs.AnyOrder.{Begins, AnyOrder, CloseRefusesExactly}

@@ -22,7 +22,7 @@ use Rattle.unit.specs.Model.{Model}
 use Rattle.unit.specs.Sizes.{lineLengths, filtersLen, jobsLen, Sized}
 use Rattle.unit.specs.Fresh.{blank, freshHall}
 use Rattle.unit.specs.Range.{inRange, linesOk, passesOk, isZero, unmarked, blankFilters, blankOpen}
-use Rattle.jobs.specs.Close.{closed, shut}
+use Rattle.closing.specs.Close.{closed, shut}
 use Rattle.demands.specs.AnyOrder.{Begins}
 use Rattle.demands.proofs.LineRings.{length-moved}
 use Rattle.demands.proofs.Lent.{not-is}

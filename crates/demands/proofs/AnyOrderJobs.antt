@@ -23,7 +23,7 @@ use Rattle.frame.specs.Frame.{Frame, OutputRow, frameFrom, passesIn, lineRows, 
 use Rattle.turns.specs.Marks.{mixMark, lineMark, outputMark, allDone}
 use Rattle.rows.specs.Rows.{Rows, rowsOf, joined}
 use Rattle.rows.specs.Parts.{lineIn, lineLaid, lineEnds, outputIn, outputLaid, outputEnds}
-use Rattle.jobs.specs.Play.{openLaid, openWork}
+use Rattle.opening.specs.Play.{openLaid, openWork}
 use Rattle.jobs.specs.Steps.{readRow, readWork, mixLaid, mixWork, lineWork, lineFilters, outputWork, outputFilters}
 use Rattle.demands.proofs.LineRings.{read-row}
 use Rattle.demands.proofs.AnyOrderRows.{stacked, stacked-same, length-stacked, stacked-rows, stacked-all, row-stacked, row-of, set-stacked, set-of, over-end}

@@ -20,7 +20,7 @@ use Rattle.unit.specs.Range.{inRange, linesOk, passesOk}
 use Rattle.judges.specs.Judges.{judged, storeOk, workOk, lentOk, givenOk, judgedGiven}
 use Rattle.frame.specs.Frame.{Frame, frameFrom, lineRows}
 use Rattle.frame.proofs.RowLaws.{length-filtersOf}
-use Rattle.jobs.specs.Play.{Play, apply, tail, isTail, filtersFor, inputFor, countFor, frameFor, wholeDue, opened, openWork}
+use Rattle.opening.specs.Play.{Play, apply, tail, isTail, filtersFor, inputFor, countFor, frameFor, wholeDue, opened, openWork}
 use Rattle.demands.specs.Jobs.{Memory}
 use Rattle.demands.specs.Calls.{start, answer, after}
 use Rattle.demands.specs.Requests.{Request}

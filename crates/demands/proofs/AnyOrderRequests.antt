@@ -23,9 +23,9 @@ use Rattle.reverb.specs.Whole.{counted, after as played, wholeAnswer, wholeUnit
 use Rattle.turns.specs.Marks.{mixMark, lineMark, outputMark, allRead}
 use Rattle.rows.specs.Rows.{rowsOf}
 use Rattle.turns.specs.Turns.{judgedClose}
-use Rattle.jobs.specs.Play.{Play, countFor, frameFor, wholeDue}
+use Rattle.opening.specs.Play.{Play, countFor, frameFor, wholeDue}
 use Rattle.lines.specs.Parts.{rowsFinite}
-use Rattle.jobs.specs.Close.{nineOfRows, closeAnswer, closed, shut, closeUnit, closeStore, closeWork}
+use Rattle.closing.specs.Close.{nineOfRows, closeAnswer, closed, shut, closeUnit, closeStore, closeWork}
 use Rattle.demands.specs.Jobs.{Memory, Job, readJob, mixJob, lineJob, outputJob, markOf}
 use Rattle.demands.specs.Calls.{atOnce, closing, Call, reset, whole, start, job, close, abandon, answer, after}
 use Rattle.demands.specs.Requests.{Slice, own, other, lent, left, Request, fresh, ask, seen, refusal, answerOf, request, requests}

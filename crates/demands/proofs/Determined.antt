@@ -185,14 +185,14 @@ use Rattle.reverb.proofs.quiet.Kinds as reverb-quiet-kinds
 use Rattle.reverb.proofs.quiet.Reads as reverb-quiet-reads
 use Rattle.reverb.proofs.fallen.Kinds as reverb-fallen-kinds
 use Rattle.reverb.proofs.fallen.Reads as reverb-fallen-reads
-use Rattle.jobs.proofs.close.Kinds as jobs-close-kinds
-use Rattle.jobs.proofs.close.Reads as jobs-close-reads
-use Rattle.jobs.proofs.abandon.Kinds as jobs-abandon-kinds
-use Rattle.jobs.proofs.abandon.Reads as jobs-abandon-reads
-use Rattle.jobs.proofs.open_apply.Kinds as jobs-open-apply-kinds
-use Rattle.jobs.proofs.open_apply.Reads as jobs-open-apply-reads
-use Rattle.jobs.proofs.open_tail.Kinds as jobs-open-tail-kinds
-use Rattle.jobs.proofs.open_tail.Reads as jobs-open-tail-reads
+use Rattle.closing.proofs.close.Kinds as closing-close-kinds
+use Rattle.closing.proofs.close.Reads as closing-close-reads
+use Rattle.closing.proofs.abandon.Kinds as closing-abandon-kinds
+use Rattle.closing.proofs.abandon.Reads as closing-abandon-reads
+use Rattle.opening.proofs.open_apply.Kinds as opening-open-apply-kinds
+use Rattle.opening.proofs.open_apply.Reads as opening-open-apply-reads
+use Rattle.opening.proofs.open_tail.Kinds as opening-open-tail-kinds
+use Rattle.opening.proofs.open_tail.Reads as opening-open-tail-reads
 use Rattle.jobs.proofs.job_read.Kinds as jobs-job-read-kinds
 use Rattle.jobs.proofs.job_read.Reads as jobs-job-read-reads
 use Rattle.jobs.proofs.job_mix.Kinds as jobs-job-mix-kinds
@@ -607,35 +607,35 @@ turns-judge-abandon κs a x y s t p q = p ∙ sym (q)
 
 -- ---- jobs
 
-pub jobs-close : OneResult 3 jobs-close-kinds.ps jobs-close-kinds.r jobs-close-reads.Post
-jobs-close κs a x y s t p q = p .0 ∙ sym (q .0)
+pub closing-close : OneResult 3 closing-close-kinds.ps closing-close-kinds.r closing-close-reads.Post
+closing-close κs a x y s t p q = p .0 ∙ sym (q .0)
 
-pub jobs-close-store : OneExit 3 jobs-close-kinds.ps jobs-close-kinds.r jobs-close-reads.Post (λ κs s. s .1 .0 .now)
-jobs-close-store κs a x y s t p q = p .1 .0 ∙ sym (q .1 .0)
+pub closing-close-store : OneExit 3 closing-close-kinds.ps closing-close-kinds.r closing-close-reads.Post (λ κs s. s .1 .0 .now)
+closing-close-store κs a x y s t p q = p .1 .0 ∙ sym (q .1 .0)
 
-pub jobs-close-work : OneExit 3 jobs-close-kinds.ps jobs-close-kinds.r jobs-close-reads.Post (λ κs s. s .1 .1 .0 .now)
-jobs-close-work κs a x y s t p q = p .1 .1 .0 ∙ sym (q .1 .1 .0)
+pub closing-close-work : OneExit 3 closing-close-kinds.ps closing-close-kinds.r closing-close-reads.Post (λ κs s. s .1 .1 .0 .now)
+closing-close-work κs a x y s t p q = p .1 .1 .0 ∙ sym (q .1 .1 .0)
 
-pub jobs-close-output : OneExit 3 jobs-close-kinds.ps jobs-close-kinds.r jobs-close-reads.Post (λ κs s. s .1 .1 .1 .0 .now)
-jobs-close-output κs a x y s t p q = p .1 .1 .1 ∙ sym (q .1 .1 .1)
+pub closing-close-output : OneExit 3 closing-close-kinds.ps closing-close-kinds.r closing-close-reads.Post (λ κs s. s .1 .1 .1 .0 .now)
+closing-close-output κs a x y s t p q = p .1 .1 .1 ∙ sym (q .1 .1 .1)
 
-pub jobs-abandon : OneResult 1 jobs-abandon-kinds.ps jobs-abandon-kinds.r jobs-abandon-reads.Post
-jobs-abandon κs a x y s t p q = p .0 ∙ sym (q .0)
+pub closing-abandon : OneResult 1 closing-abandon-kinds.ps closing-abandon-kinds.r closing-abandon-reads.Post
+closing-abandon κs a x y s t p q = p .0 ∙ sym (q .0)
 
-pub jobs-abandon-work : OneExit 1 jobs-abandon-kinds.ps jobs-abandon-kinds.r jobs-abandon-reads.Post (λ κs s. s .1 .0 .now)
-jobs-abandon-work κs a x y s t p q = p .1 ∙ sym (q .1)
+pub closing-abandon-work : OneExit 1 closing-abandon-kinds.ps closing-abandon-kinds.r closing-abandon-reads.Post (λ κs s. s .1 .0 .now)
+closing-abandon-work κs a x y s t p q = p .1 ∙ sym (q .1)
 
-pub jobs-open-apply : OneResult 4 jobs-open-apply-kinds.ps jobs-open-apply-kinds.r jobs-open-apply-reads.Post
-jobs-open-apply κs a x y s t p q = p .0 ∙ sym (q .0)
+pub opening-open-apply : OneResult 4 opening-open-apply-kinds.ps opening-open-apply-kinds.r opening-open-apply-reads.Post
+opening-open-apply κs a x y s t p q = p .0 ∙ sym (q .0)
 
-pub jobs-open-apply-work : OneExit 4 jobs-open-apply-kinds.ps jobs-open-apply-kinds.r jobs-open-apply-reads.Post (λ κs s. s .1 .1 .1 .1 .1 .0 .now)
-jobs-open-apply-work κs a x y s t p q = p .1 ∙ sym (q .1)
+pub opening-open-apply-work : OneExit 4 opening-open-apply-kinds.ps opening-open-apply-kinds.r opening-open-apply-reads.Post (λ κs s. s .1 .1 .1 .1 .1 .0 .now)
+opening-open-apply-work κs a x y s t p q = p .1 ∙ sym (q .1)
 
-pub jobs-open-tail : OneResult 2 jobs-open-tail-kinds.ps jobs-open-tail-kinds.r jobs-open-tail-reads.Post
-jobs-open-tail κs a x y s t p q = p .0 ∙ sym (q .0)
+pub opening-open-tail : OneResult 2 opening-open-tail-kinds.ps opening-open-tail-kinds.r opening-open-tail-reads.Post
+opening-open-tail κs a x y s t p q = p .0 ∙ sym (q .0)
 
-pub jobs-open-tail-work : OneExit 2 jobs-open-tail-kinds.ps jobs-open-tail-kinds.r jobs-open-tail-reads.Post (λ κs s. s .1 .1 .0 .now)
-jobs-open-tail-work κs a x y s t p q = p .1 ∙ sym (q .1)
+pub opening-open-tail-work : OneExit 2 opening-open-tail-kinds.ps opening-open-tail-kinds.r opening-open-tail-reads.Post (λ κs s. s .1 .1 .0 .now)
+opening-open-tail-work κs a x y s t p q = p .1 ∙ sym (q .1)
 
 pub jobs-job-read : OneResult 2 jobs-job-read-kinds.ps jobs-job-read-kinds.r jobs-job-read-reads.Post
 jobs-job-read κs a x y s t p q = p .0 ∙ sym (q .0)

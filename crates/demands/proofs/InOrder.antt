@@ -21,7 +21,7 @@ use Rattle.unit.specs.Range.{inRange}
 use Rattle.judges.specs.Judges.{storeOk, workOk}
 use Rattle.turns.specs.Marks.{mixMark, lineMark, outputMark, allDone, allRead}
 use Rattle.rows.specs.Rows.{joined}
-use Rattle.jobs.specs.Play.{Play}
+use Rattle.opening.specs.Play.{Play}
 use Rattle.demands.specs.Jobs.{Memory, Job, readJob, mixJob, lineJob, outputJob, markOf}
 use Rattle.demands.specs.Calls.{start, job, answer, after}
 use Rattle.demands.specs.Requests.{own, Request, ask, request, requests}

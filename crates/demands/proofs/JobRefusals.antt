@@ -16,16 +16,16 @@ use Rattle.unit.specs.Model.{wall}
 use Rattle.turns.specs.Marks.{mixMark, lineMark, outputMark}
 use Rattle.turns.specs.Turns.{judgedOpenApply, judgedOpenTail, judgedRead, judgedMix, judgedLine, judgedOutput, judgedClose, judgedAbandon}
 use Rattle.reverb.specs.declared.Outcome.{Outcome}
-use Rattle.jobs.specs.Play as Play
-use Rattle.jobs.specs.Play.{opened, openWork}
+use Rattle.opening.specs.Play as Play
+use Rattle.opening.specs.Play.{opened, openWork}
 use Rattle.jobs.specs.Steps.{markedUnit, readWork, mixWork, lineWork, lineFilters, outputWork, outputFilters}
 use Rattle.rows.specs.Rows.{Rows, rowsOf}
 use Rattle.lines.specs.Parts.{rowsFinite}
-use Rattle.jobs.specs.Close.{shut, cleared, closed, nineOfRows, closeAnswer, closeUnit, closeStore, closeWork, closeOutput}
-use Rattle.jobs.proofs.open_apply.Kinds as jobs-open-apply-kinds
-use Rattle.jobs.proofs.open_apply.Reads as jobs-open-apply-reads
-use Rattle.jobs.proofs.open_tail.Kinds as jobs-open-tail-kinds
-use Rattle.jobs.proofs.open_tail.Reads as jobs-open-tail-reads
+use Rattle.closing.specs.Close.{shut, cleared, closed, nineOfRows, closeAnswer, closeUnit, closeStore, closeWork, closeOutput}
+use Rattle.opening.proofs.open_apply.Kinds as opening-open-apply-kinds
+use Rattle.opening.proofs.open_apply.Reads as opening-open-apply-reads
+use Rattle.opening.proofs.open_tail.Kinds as opening-open-tail-kinds
+use Rattle.opening.proofs.open_tail.Reads as opening-open-tail-reads
 use Rattle.jobs.proofs.job_read.Kinds as jobs-job-read-kinds
 use Rattle.jobs.proofs.job_read.Reads as jobs-job-read-reads
 use Rattle.jobs.proofs.job_mix.Kinds as jobs-job-mix-kinds
@@ -34,10 +34,10 @@ use Rattle.jobs.proofs.job_line.Kinds as jobs-job-line-kinds
 use Rattle.jobs.proofs.job_line.Reads as jobs-job-line-reads
 use Rattle.jobs.proofs.job_output.Kinds as jobs-job-output-kinds
 use Rattle.jobs.proofs.job_output.Reads as jobs-job-output-reads
-use Rattle.jobs.proofs.close.Kinds as jobs-close-kinds
-use Rattle.jobs.proofs.close.Reads as jobs-close-reads
-use Rattle.jobs.proofs.abandon.Kinds as jobs-abandon-kinds
-use Rattle.jobs.proofs.abandon.Reads as jobs-abandon-reads
+use Rattle.closing.proofs.close.Kinds as closing-close-kinds
+use Rattle.closing.proofs.close.Reads as closing-close-reads
+use Rattle.closing.proofs.abandon.Kinds as closing-abandon-kinds
+use Rattle.closing.proofs.abandon.Reads as closing-abandon-reads
 use Rattle.demands.specs.Determined.{Unchanged, Cleared, UnchangedBut9, Shuts}
 use Rattle.demands.proofs.Refusals.{kept}
 use Rattle.demands.proofs.UnitRefusals.{isNine, nine-clears, due-refuses, judged-not-nine}
@@ -53,17 +53,17 @@ state-kept : (x : Outcome) (s : State) (due : Answer) (new : Hall) → x .answer
     → x .state ≡ s
 state-kept x s due new e q h = q ∙ ap toState (accept-no due new (ofState s) (sym (ap accepted e) ∙ h))
 
-pub jobs-open-apply-state : Unchanged 4 jobs-open-apply-kinds.ps jobs-open-apply-kinds.r jobs-open-apply-reads.Post (λ κs x. x .answer) (λ κs x s. x .state) (λ κs a. a .0)
-jobs-open-apply-state κs a x s p h = state-kept x (a .0) (judgedOpenApply wall (ofState (a .0)) (a .1 .0) (a .1 .1 .0 .now) (a .1 .1 .1 .0 .now) (length (a .1 .1 .1 .1 .0 .now)) (length (a .1 .1 .1 .1 .1 .0 .now))) (opened wall (ofState (a .0)) (Play.apply (a .1 .0) (a .1 .1 .0 .now) (a .1 .1 .1 .0 .now))) (ap answer-of (p .0)) (ap state-of (p .0)) h
+pub opening-open-apply-state : Unchanged 4 opening-open-apply-kinds.ps opening-open-apply-kinds.r opening-open-apply-reads.Post (λ κs x. x .answer) (λ κs x s. x .state) (λ κs a. a .0)
+opening-open-apply-state κs a x s p h = state-kept x (a .0) (judgedOpenApply wall (ofState (a .0)) (a .1 .0) (a .1 .1 .0 .now) (a .1 .1 .1 .0 .now) (length (a .1 .1 .1 .1 .0 .now)) (length (a .1 .1 .1 .1 .1 .0 .now))) (opened wall (ofState (a .0)) (Play.apply (a .1 .0) (a .1 .1 .0 .now) (a .1 .1 .1 .0 .now))) (ap answer-of (p .0)) (ap state-of (p .0)) h
 
-pub jobs-open-apply-work : Unchanged 4 jobs-open-apply-kinds.ps jobs-open-apply-kinds.r jobs-open-apply-reads.Post (λ κs x. x .answer) (λ κs x s. s .1 .1 .1 .1 .1 .0 .now) (λ κs a. a .1 .1 .1 .1 .1 .0 .now)
-jobs-open-apply-work κs a x s p h = kept (x .answer) (judgedOpenApply wall (ofState (a .0)) (a .1 .0) (a .1 .1 .0 .now) (a .1 .1 .1 .0 .now) (length (a .1 .1 .1 .1 .0 .now)) (length (a .1 .1 .1 .1 .1 .0 .now))) (openWork wall (ofState (a .0)) (a .1 .1 .1 .0 .now) (a .1 .1 .1 .1 .0 .now)) (a .1 .1 .1 .1 .1 .0 .now) (p .1) (ap answer-of (p .0)) h
+pub opening-open-apply-work : Unchanged 4 opening-open-apply-kinds.ps opening-open-apply-kinds.r opening-open-apply-reads.Post (λ κs x. x .answer) (λ κs x s. s .1 .1 .1 .1 .1 .0 .now) (λ κs a. a .1 .1 .1 .1 .1 .0 .now)
+opening-open-apply-work κs a x s p h = kept (x .answer) (judgedOpenApply wall (ofState (a .0)) (a .1 .0) (a .1 .1 .0 .now) (a .1 .1 .1 .0 .now) (length (a .1 .1 .1 .1 .0 .now)) (length (a .1 .1 .1 .1 .1 .0 .now))) (openWork wall (ofState (a .0)) (a .1 .1 .1 .0 .now) (a .1 .1 .1 .1 .0 .now)) (a .1 .1 .1 .1 .1 .0 .now) (p .1) (ap answer-of (p .0)) h
 
-pub jobs-open-tail-state : Unchanged 2 jobs-open-tail-kinds.ps jobs-open-tail-kinds.r jobs-open-tail-reads.Post (λ κs x. x .answer) (λ κs x s. x .state) (λ κs a. a .0)
-jobs-open-tail-state κs a x s p h = state-kept x (a .0) (judgedOpenTail wall (ofState (a .0)) (length (a .1 .0 .now)) (length (a .1 .1 .0 .now))) (opened wall (ofState (a .0)) Play.tail) (ap answer-of (p .0)) (ap state-of (p .0)) h
+pub opening-open-tail-state : Unchanged 2 opening-open-tail-kinds.ps opening-open-tail-kinds.r opening-open-tail-reads.Post (λ κs x. x .answer) (λ κs x s. x .state) (λ κs a. a .0)
+opening-open-tail-state κs a x s p h = state-kept x (a .0) (judgedOpenTail wall (ofState (a .0)) (length (a .1 .0 .now)) (length (a .1 .1 .0 .now))) (opened wall (ofState (a .0)) Play.tail) (ap answer-of (p .0)) (ap state-of (p .0)) h
 
-pub jobs-open-tail-work : Unchanged 2 jobs-open-tail-kinds.ps jobs-open-tail-kinds.r jobs-open-tail-reads.Post (λ κs x. x .answer) (λ κs x s. s .1 .1 .0 .now) (λ κs a. a .1 .1 .0 .now)
-jobs-open-tail-work κs a x s p h = kept (x .answer) (judgedOpenTail wall (ofState (a .0)) (length (a .1 .0 .now)) (length (a .1 .1 .0 .now))) (openWork wall (ofState (a .0)) (replicate (a .0 .frame) +0) (a .1 .0 .now)) (a .1 .1 .0 .now) (p .1) (ap answer-of (p .0)) h
+pub opening-open-tail-work : Unchanged 2 opening-open-tail-kinds.ps opening-open-tail-kinds.r opening-open-tail-reads.Post (λ κs x. x .answer) (λ κs x s. s .1 .1 .0 .now) (λ κs a. a .1 .1 .0 .now)
+opening-open-tail-work κs a x s p h = kept (x .answer) (judgedOpenTail wall (ofState (a .0)) (length (a .1 .0 .now)) (length (a .1 .1 .0 .now))) (openWork wall (ofState (a .0)) (replicate (a .0 .frame) +0) (a .1 .0 .now)) (a .1 .1 .0 .now) (p .1) (ap answer-of (p .0)) h
 
 pub jobs-job-read-state : Unchanged 2 jobs-job-read-kinds.ps jobs-job-read-kinds.r jobs-job-read-reads.Post (λ κs x. x .answer) (λ κs x s. x .state) (λ κs a. a .0)
 jobs-job-read-state κs a x s p h = state-kept x (a .0) (judgedRead wall (ofState (a .0)) (a .1 .0) (length (a .1 .1 .0 .now)) (length (a .1 .1 .1 .0 .now))) (markedUnit (ofState (a .0)) (a .1 .0) (a .0 .filters)) (ap answer-of (p .0)) (ap state-of (p .0)) h
@@ -89,11 +89,11 @@ jobs-job-output-state κs a x s p h = state-kept x (a .0) (judgedOutput wall (of
 pub jobs-job-output-work : Unchanged 1 jobs-job-output-kinds.ps jobs-job-output-kinds.r jobs-job-output-reads.Post (λ κs x. x .answer) (λ κs x s. s .1 .0 .now) (λ κs a. a .1 .0 .now)
 jobs-job-output-work κs a x s p h = kept (x .answer) (judgedOutput wall (ofState (a .0)) (length (a .1 .0 .now))) (outputWork wall (ofState (a .0)) (a .1 .0 .now)) (a .1 .0 .now) (p .1) (ap answer-of (p .0)) h
 
-pub jobs-abandon-state : Unchanged 1 jobs-abandon-kinds.ps jobs-abandon-kinds.r jobs-abandon-reads.Post (λ κs x. x .answer) (λ κs x s. x .state) (λ κs a. a .0)
-jobs-abandon-state κs a x s p h = state-kept x (a .0) (judgedAbandon wall (ofState (a .0)) (length (a .1 .0 .now))) (shut wall (ofState (a .0))) (ap answer-of (p .0)) (ap state-of (p .0)) h
+pub closing-abandon-state : Unchanged 1 closing-abandon-kinds.ps closing-abandon-kinds.r closing-abandon-reads.Post (λ κs x. x .answer) (λ κs x s. x .state) (λ κs a. a .0)
+closing-abandon-state κs a x s p h = state-kept x (a .0) (judgedAbandon wall (ofState (a .0)) (length (a .1 .0 .now))) (shut wall (ofState (a .0))) (ap answer-of (p .0)) (ap state-of (p .0)) h
 
-pub jobs-abandon-work : Unchanged 1 jobs-abandon-kinds.ps jobs-abandon-kinds.r jobs-abandon-reads.Post (λ κs x. x .answer) (λ κs x s. s .1 .0 .now) (λ κs a. a .1 .0 .now)
-jobs-abandon-work κs a x s p h = kept (x .answer) (judgedAbandon wall (ofState (a .0)) (length (a .1 .0 .now))) (cleared (a .1 .0 .now)) (a .1 .0 .now) (p .1) (ap answer-of (p .0)) h
+pub closing-abandon-work : Unchanged 1 closing-abandon-kinds.ps closing-abandon-kinds.r closing-abandon-reads.Post (λ κs x. x .answer) (λ κs x s. s .1 .0 .now) (λ κs a. a .1 .0 .now)
+closing-abandon-work κs a x s p h = kept (x .answer) (judgedAbandon wall (ofState (a .0)) (length (a .1 .0 .now))) (cleared (a .1 .0 .now)) (a .1 .0 .now) (p .1) (ap answer-of (p .0)) h
 
 -- ---- close: what one that is due `due` leaves of a unit u, its rows r, where its answer, which is `a`, refuses
 
@@ -138,22 +138,22 @@ module _ (u : Hall) (due a : Answer) (r : Rows) (e : a ≡ closeAnswer due u r) 
             accept-yes due _ u q ∙ accept-no (nineOfRows (u .filters) r) (closed wall u) (shut wall u) (ap accepted k)
         go false q = absurd (true≢false (sym (ap isNine (sym (accept-no due (nineOfRows (u .filters) r) due q) ∙ sym e ∙ h)) ∙ d))
 
-pub jobs-close-store : Unchanged 3 jobs-close-kinds.ps jobs-close-kinds.r jobs-close-reads.Post (λ κs x. x .answer) (λ κs x s. s .1 .0 .now) (λ κs a. a .1 .0 .now)
-jobs-close-store κs a x s p h = p .1 .0 ∙ store-kept (ofState (a .0)) (judgedClose wall (ofState (a .0)) (length (a .1 .0 .now)) (length (a .1 .1 .0 .now)) (length (a .1 .1 .1 .0 .now))) (x .answer) (rowsOf wall (a .0 .frame) (a .1 .1 .0 .now)) (ap answer-of (p .0)) h (a .1 .0 .now)
+pub closing-close-store : Unchanged 3 closing-close-kinds.ps closing-close-kinds.r closing-close-reads.Post (λ κs x. x .answer) (λ κs x s. s .1 .0 .now) (λ κs a. a .1 .0 .now)
+closing-close-store κs a x s p h = p .1 .0 ∙ store-kept (ofState (a .0)) (judgedClose wall (ofState (a .0)) (length (a .1 .0 .now)) (length (a .1 .1 .0 .now)) (length (a .1 .1 .1 .0 .now))) (x .answer) (rowsOf wall (a .0 .frame) (a .1 .1 .0 .now)) (ap answer-of (p .0)) h (a .1 .0 .now)
 
-pub jobs-close-output : Unchanged 3 jobs-close-kinds.ps jobs-close-kinds.r jobs-close-reads.Post (λ κs x. x .answer) (λ κs x s. s .1 .1 .1 .0 .now) (λ κs a. a .1 .1 .1 .0 .now)
-jobs-close-output κs a x s p h = p .1 .1 .1 ∙ output-kept (ofState (a .0)) (judgedClose wall (ofState (a .0)) (length (a .1 .0 .now)) (length (a .1 .1 .0 .now)) (length (a .1 .1 .1 .0 .now))) (x .answer) (rowsOf wall (a .0 .frame) (a .1 .1 .0 .now)) (ap answer-of (p .0)) h (a .1 .1 .1 .0 .now)
+pub closing-close-output : Unchanged 3 closing-close-kinds.ps closing-close-kinds.r closing-close-reads.Post (λ κs x. x .answer) (λ κs x s. s .1 .1 .1 .0 .now) (λ κs a. a .1 .1 .1 .0 .now)
+closing-close-output κs a x s p h = p .1 .1 .1 ∙ output-kept (ofState (a .0)) (judgedClose wall (ofState (a .0)) (length (a .1 .0 .now)) (length (a .1 .1 .0 .now)) (length (a .1 .1 .1 .0 .now))) (x .answer) (rowsOf wall (a .0 .frame) (a .1 .1 .0 .now)) (ap answer-of (p .0)) h (a .1 .1 .1 .0 .now)
 
-pub jobs-close-state : UnchangedBut9 3 jobs-close-kinds.ps jobs-close-kinds.r jobs-close-reads.Post (λ κs x. x .answer) (λ κs x s. x .state) (λ κs a. a .0)
-jobs-close-state κs a x s p h n = ap state-of (p .0) ∙ ap toState (unit-kept (ofState (a .0)) (judgedClose wall (ofState (a .0)) (length (a .1 .0 .now)) (length (a .1 .1 .0 .now)) (length (a .1 .1 .1 .0 .now))) (x .answer) (rowsOf wall (a .0 .frame) (a .1 .1 .0 .now)) (ap answer-of (p .0)) h n)
+pub closing-close-state : UnchangedBut9 3 closing-close-kinds.ps closing-close-kinds.r closing-close-reads.Post (λ κs x. x .answer) (λ κs x s. x .state) (λ κs a. a .0)
+closing-close-state κs a x s p h n = ap state-of (p .0) ∙ ap toState (unit-kept (ofState (a .0)) (judgedClose wall (ofState (a .0)) (length (a .1 .0 .now)) (length (a .1 .1 .0 .now)) (length (a .1 .1 .1 .0 .now))) (x .answer) (rowsOf wall (a .0 .frame) (a .1 .1 .0 .now)) (ap answer-of (p .0)) h n)
 
-pub jobs-close-work : UnchangedBut9 3 jobs-close-kinds.ps jobs-close-kinds.r jobs-close-reads.Post (λ κs x. x .answer) (λ κs x s. s .1 .1 .0 .now) (λ κs a. a .1 .1 .0 .now)
-jobs-close-work κs a x s p h n = p .1 .1 .0 ∙ work-kept (ofState (a .0)) (judgedClose wall (ofState (a .0)) (length (a .1 .0 .now)) (length (a .1 .1 .0 .now)) (length (a .1 .1 .1 .0 .now))) (x .answer) (rowsOf wall (a .0 .frame) (a .1 .1 .0 .now)) (ap answer-of (p .0)) h n (a .1 .1 .0 .now)
+pub closing-close-work : UnchangedBut9 3 closing-close-kinds.ps closing-close-kinds.r closing-close-reads.Post (λ κs x. x .answer) (λ κs x s. s .1 .1 .0 .now) (λ κs a. a .1 .1 .0 .now)
+closing-close-work κs a x s p h n = p .1 .1 .0 ∙ work-kept (ofState (a .0)) (judgedClose wall (ofState (a .0)) (length (a .1 .0 .now)) (length (a .1 .1 .0 .now)) (length (a .1 .1 .1 .0 .now))) (x .answer) (rowsOf wall (a .0 .frame) (a .1 .1 .0 .now)) (ap answer-of (p .0)) h n (a .1 .1 .0 .now)
 
-pub jobs-close-cleared : Cleared 3 jobs-close-kinds.ps jobs-close-kinds.r jobs-close-reads.Post (λ κs x. x .answer) (λ κs x s. s .1 .1 .0 .now) (λ κs a. a .1 .1 .0 .now)
-jobs-close-cleared κs a x s p h =
+pub closing-close-cleared : Cleared 3 closing-close-kinds.ps closing-close-kinds.r closing-close-reads.Post (λ κs x. x .answer) (λ κs x s. s .1 .1 .0 .now) (λ κs a. a .1 .1 .0 .now)
+closing-close-cleared κs a x s p h =
     p .1 .1 .0 ∙ work-cleared (ofState (a .0)) (judgedClose wall (ofState (a .0)) (length (a .1 .0 .now)) (length (a .1 .1 .0 .now)) (length (a .1 .1 .1 .0 .now))) (x .answer) (rowsOf wall (a .0 .frame) (a .1 .1 .0 .now)) (ap answer-of (p .0)) (judged-not-nine (ofState (a .0)) _ true _) h (a .1 .1 .0 .now)
 
-pub jobs-close-shut : Shuts 3 jobs-close-kinds.ps jobs-close-kinds.r jobs-close-reads.Post (λ κs x. x .answer) (λ κs x. x .state) (λ κs a. toState (shut wall (ofState (a .0))))
-jobs-close-shut κs a x s p h =
+pub closing-close-shut : Shuts 3 closing-close-kinds.ps closing-close-kinds.r closing-close-reads.Post (λ κs x. x .answer) (λ κs x. x .state) (λ κs a. toState (shut wall (ofState (a .0))))
+closing-close-shut κs a x s p h =
     ap state-of (p .0) ∙ ap toState (unit-shut (ofState (a .0)) (judgedClose wall (ofState (a .0)) (length (a .1 .0 .now)) (length (a .1 .1 .0 .now)) (length (a .1 .1 .1 .0 .now))) (x .answer) (rowsOf wall (a .0 .frame) (a .1 .1 .0 .now)) (ap answer-of (p .0)) (judged-not-nine (ofState (a .0)) _ true _) h)

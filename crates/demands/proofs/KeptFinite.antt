@@ -29,9 +29,9 @@ use Rattle.frame.specs.Settle.{filtersFinite, frameFinite, nineOf, putRows, set
 use Rattle.reverb.specs.Whole.{wholeAnswer, wholeUnit, wholeStore}
 use Rattle.rows.specs.Rows.{Rows, rowsOf}
 use Rattle.turns.specs.Turns.{judgedClose}
-use Rattle.jobs.specs.Play.{frameFor, wholeDue}
+use Rattle.opening.specs.Play.{frameFor, wholeDue}
 use Rattle.lines.specs.Parts.{rowsFinite}
-use Rattle.jobs.specs.Close.{nineOfRows, closeAnswer, closeUnit, closeStore}
+use Rattle.closing.specs.Close.{nineOfRows, closeAnswer, closeUnit, closeStore}
 use Rattle.demands.specs.Jobs.{Memory, jobFilters}
 use Rattle.demands.specs.Calls.{Call, reset, whole, start, job, close, abandon, answer, after}
 use Rattle.demands.specs.Requests.{Slice, own, other, lent, left, Request, fresh, ask, seen, request}

@@ -28,7 +28,7 @@ use Rattle.frame.proofs.FrameLaws.{put-long}
 use Rattle.turns.specs.Marks.{allDone}
 use Rattle.turns.specs.Turns.{judgedClose}
 use Rattle.demands.specs.Jobs.{Memory, Job, readJob, mixJob, lineJob, outputJob, jobDue}
-use Rattle.jobs.specs.Play.{Play, apply, tail, inputFor, frameFor, wholeDue}
+use Rattle.opening.specs.Play.{Play, apply, tail, inputFor, frameFor, wholeDue}
 
 -- the first of two judgements, and the second
 pub or-first : (a b : Answer) → orElse a b ≡ Accepted → a ≡ Accepted

@@ -32,9 +32,9 @@ use Rattle.reverb.specs.Whole.{after as played, counted, wholeAnswer, wholeUnit
 use Rattle.turns.specs.Marks.{marked, mixMark, lineMark, outputMark}
 use Rattle.rows.specs.Rows.{rowsOf}
 use Rattle.turns.specs.Turns.{judgedClose}
-use Rattle.jobs.specs.Play.{Play, apply, tail, countFor, frameFor, wholeDue, opened}
+use Rattle.opening.specs.Play.{Play, apply, tail, countFor, frameFor, wholeDue, opened}
 use Rattle.jobs.specs.Steps.{markedUnit, readRow}
-use Rattle.jobs.specs.Close.{nineOfRows, closed, shut, closeUnit, closeStore}
+use Rattle.closing.specs.Close.{nineOfRows, closed, shut, closeUnit, closeStore}
 use Rattle.demands.specs.Jobs.{Memory, Job, readJob, mixJob, lineJob, outputJob, jobWork}
 use Rattle.demands.specs.Calls.{Call, reset, whole, start, job, close, abandon, answer, after}
 use Rattle.demands.specs.Requests.{Slice, own, other, lent, left, Request, fresh, ask, seen, refusal, answerOf, request}

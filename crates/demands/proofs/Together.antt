@@ -16,7 +16,7 @@ use Rattle.frame.specs.Settle.{allMoved}
 use Rattle.reverb.specs.Whole.{wholeUnit}
 use Rattle.rows.specs.Rows.{rowsOf}
 use Rattle.turns.specs.Turns.{judgedClose}
-use Rattle.jobs.specs.Close.{nineOfRows, closeUnit}
+use Rattle.closing.specs.Close.{nineOfRows, closeUnit}
 use Rattle.demands.specs.Jobs.{Memory}
 use Rattle.demands.specs.Calls.{Call, reset, whole, start, job, close, abandon, answer, after}
 use Rattle.demands.specs.Requests.{Request, fresh, ask, seen, request}

@@ -13,8 +13,8 @@ use Rattle.unit.specs.Hall.{Hall}
 use Rattle.unit.specs.Model.{Model}
 use Rattle.unit.specs.Sizes.{Sized}
 use Rattle.turns.specs.Marks.{allDone}
-use Rattle.jobs.specs.Play.{Play}
-use Rattle.jobs.specs.Close.{cleared}
+use Rattle.opening.specs.Play.{Play}
+use Rattle.closing.specs.Close.{cleared}
 use Rattle.demands.specs.Jobs.{Memory, Job, readJob, mixJob, lineJob, outputJob}
 use Rattle.demands.specs.Calls.{job, start, answer, after, atOnce, closing}
 use Rattle.demands.specs.Requests.{Request, ask, own, answerOf, request, requests, refusal}

@@ -12,10 +12,10 @@ use Rattle.judges.specs.Judges.{judgedReset}
 use Rattle.reverb.specs.Whole.{resetUnit, resetStore, wholeAnswer, wholeUnit, wholeStore, wholeOutput, wholeWork}
 use Rattle.rows.specs.Rows.{rowsOf}
 use Rattle.turns.specs.Turns.{judgedClose, judgedAbandon}
-use Rattle.jobs.specs.Play.{Play, countFor, inputFor, frameFor, wholeDue, openDue, opened, openWork}
+use Rattle.opening.specs.Play.{Play, countFor, inputFor, frameFor, wholeDue, openDue, opened, openWork}
 use Rattle.jobs.specs.Steps.{markedUnit}
 use Rattle.demands.specs.Jobs.{Memory, Job, markOf, jobDue, jobFilters, jobWork}
-use Rattle.jobs.specs.Close.{cleared, shut, closeAnswer, closeVerdict, closeUnit, closeStore, closeOutput, closeWork}
+use Rattle.closing.specs.Close.{cleared, shut, closeAnswer, closeVerdict, closeUnit, closeStore, closeOutput, closeWork}
 
 -- ---- how a frame ends: the answer, the verdict, and what the unit, the memory and the output are then
 

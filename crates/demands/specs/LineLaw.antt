@@ -17,7 +17,7 @@ use Rattle.unit.specs.Model.{Model}
 use Rattle.judges.specs.Judges.{judgedFresh}
 use Rattle.unit.specs.Sizes.{Sized}
 use Rattle.rows.specs.Rows.{rowsOf}
-use Rattle.jobs.specs.Play.{Play, frameFor}
+use Rattle.opening.specs.Play.{Play, frameFor}
 use Rattle.demands.specs.Jobs.{Memory, Job, readJob, mixJob, lineJob, outputJob, jobWork}
 use Rattle.demands.specs.Calls.{Call, reset, whole, start, job, close, abandon, answer, after}
 use Rattle.demands.specs.Requests.{Slice, own, Request, fresh, ask, seen, answerOf, request, refusal}

@@ -14,10 +14,10 @@ ghost use Rattle.turns.specs.Marks.{mixMark, lineMark, outputMark};
 ghost use Rattle.turns.specs.Turns.{judgedOpenApply, judgedOpenTail, judgedRead, judgedMix, judgedLine, judgedOutput, judgedClose, judgedAbandon};
 ghost use Rattle.rows.specs.Rows.{rowsOf};
 ghost use Rattle.reverb.specs.Whole.{outcome};
-ghost use Rattle.jobs.specs.Play as Play;
-ghost use Rattle.jobs.specs.Play.{opened, openWork};
+ghost use Rattle.opening.specs.Play as Play;
+ghost use Rattle.opening.specs.Play.{opened, openWork};
 ghost use Rattle.jobs.specs.Steps.{markedUnit, readWork, mixWork, lineWork, lineFilters, outputWork, outputFilters};
-ghost use Rattle.jobs.specs.Close.{shut, cleared, closeAnswer, closeUnit, closeStore, closeWork, closeOutput, closeVerdict};
+ghost use Rattle.closing.specs.Close.{shut, cleared, closeAnswer, closeUnit, closeStore, closeWork, closeOutput, closeVerdict};
 ghost use Rattle.hall.specs.Face.{faced, times};
 
 // Begins a frame of input, to be done as jobs.
@@ -40,7 +40,7 @@ pub extern "C" fn hall_open_apply(
         mid: t1,
         high: t2,
     };
-    faced(jobs::open_apply(s, t, coefficients, input, store, work))
+    faced(opening::open_apply(s, t, coefficients, input, store, work))
 }
 
 // Begins a frame after the input has ended, to be done as jobs.
@@ -49,7 +49,7 @@ pub extern "C" fn hall_open_tail(s: State, store: &[f32], work: &mut [f32]) -> H
     ensures { λ r. ⌜ r ≡ faced (outcome (judgedOpenTail wall (ofState s) (length (now (store .entry))) (length (now (work .entry)))) (accept (judgedOpenTail wall (ofState s) (length (now (store .entry))) (length (now (work .entry)))) (opened wall (ofState s) Play.tail) (ofState s)) TailComplete) ⌝ }
     ensures { λ _. ⌜ now (work .exit) ≡ accept (judgedOpenTail wall (ofState s) (length (now (store .entry))) (length (now (work .entry)))) (openWork wall (ofState s) (replicate (s .frame) +0) (now (store .entry))) (now (work .entry)) ⌝ }
 {
-    faced(jobs::open_tail(s, store, work))
+    faced(opening::open_tail(s, store, work))
 }
 
 // Reads a frame of a line.
@@ -107,7 +107,7 @@ pub extern "C" fn hall_close(
     ensures { λ _. ⌜ now (work .exit) ≡ closeWork (judgedClose wall (ofState s) (length (now (store .entry))) (length (now (work .entry))) (length (now (output .entry)))) (now (work .entry)) ⌝ }
     ensures { λ _. ⌜ now (output .exit) ≡ closeOutput (ofState s) (judgedClose wall (ofState s) (length (now (store .entry))) (length (now (work .entry))) (length (now (output .entry)))) (rowsOf wall (s .frame) (now (work .entry))) (now (output .entry)) ⌝ }
 {
-    faced(jobs::close(s, store, work, output))
+    faced(closing::close(s, store, work, output))
 }
 
 // Gives an open frame up: the unit is as it was before, and the work memory is cleared.
@@ -116,5 +116,5 @@ pub extern "C" fn hall_abandon(s: State, work: &mut [f32]) -> HallAnswer
     ensures { λ r. ⌜ r ≡ faced (outcome (judgedAbandon wall (ofState s) (length (now (work .entry)))) (accept (judgedAbandon wall (ofState s) (length (now (work .entry)))) (shut wall (ofState s)) (ofState s)) TailComplete) ⌝ }
     ensures { λ _. ⌜ now (work .exit) ≡ accept (judgedAbandon wall (ofState s) (length (now (work .entry)))) (cleared (now (work .entry))) (now (work .entry)) ⌝ }
 {
-    faced(jobs::abandon(s, work))
+    faced(closing::abandon(s, work))
 }

@@ -1,3 +1,1 @@
-pub mod Closed
 pub mod Laid
-pub mod Opened

@@ -252,12 +252,12 @@ fn compare(order: u32, whole: State, store: &[f32], output: &[f32]) {
     let cs = coefficients();
     let o = answered(
         true,
-        jobs::open_apply(s, times(), &cs, &input, &st, &mut work),
+        opening::open_apply(s, times(), &cs, &input, &st, &mut work),
         0,
     );
     let p = play(o, order, &mut st, &mut work, &mut out);
     let q = p.state;
-    let c = answered(p.ok, jobs::close(q, &mut st, &mut work, &mut out), 0);
+    let c = answered(p.ok, closing::close(q, &mut st, &mut work, &mut out), 0);
     let end = c.state;
     let memory = and(same(&st, store), same(&out, output));
     say(order, c.ok, and(memory, same_unit(end, whole)));

@@ -1,4 +1,4 @@
--- `jobs::open_apply` meets its contract. Assumes nothing.
+-- `opening::open_apply` meets its contract. Assumes nothing.
 use borrow.Author.Needs.{needs}
 use denote.Ref.{now}
 use mathlib.Core.Path.{ap, _∙_}
@@ -16,12 +16,12 @@ use Rattle.reverb.proofs.Outcomes.{old-left, new-left, let-by}
 use Rattle.reverb.proofs.WholeParts.{filters-given}
 use Rattle.turns.specs.Turns.{judgedOpenApply}
 use Rattle.reverb.proofs.Fits.{given-of}
-use Rattle.jobs.specs.Held.{holding}
-use Rattle.jobs.specs.Play as Play
-use Rattle.jobs.specs.Play.{opened, openWork}
-use Rattle.jobs.proofs.Opened.{open-fits, open-long, laid-after}
-use Rattle.jobs.proofs.open_apply.Statement.{statement}
-use Rattle.jobs.proofs.open_apply.Tie as tie
+use Rattle.opening.specs.Held.{holding}
+use Rattle.opening.specs.Play as Play
+use Rattle.opening.specs.Play.{opened, openWork}
+use Rattle.opening.proofs.Opened.{open-fits, open-long, laid-after}
+use Rattle.opening.proofs.open_apply.Statement.{statement}
+use Rattle.opening.proofs.open_apply.Tie as tie
 
 judge-open-apply-requires : tie.Need-judge-open-apply-requires
 judge-open-apply-requires c κs = search needs

@@ -1,11 +1,11 @@
--- `jobs::ends::idle` meets its contract. Assumes nothing.
+-- `closing::ends::idle` meets its contract. Assumes nothing.
 use borrow.Author.Needs.{needs}
 use mathlib.Core.Path.{ap}
 use Rattle.unit.specs.declared.State.{State}
 use Rattle.unit.specs.Hall.{ofState, toState}
 use Rattle.reverb.specs.Whole.{movedOn}
-use Rattle.jobs.proofs.ends.idle.Statement.{statement}
-use Rattle.jobs.proofs.ends.idle.Tie as tie
+use Rattle.closing.proofs.ends.idle.Statement.{statement}
+use Rattle.closing.proofs.ends.idle.Tie as tie
 
 fresh-state-requires : tie.Need-fresh-state-requires
 fresh-state-requires c κs = search needs

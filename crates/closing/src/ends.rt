@@ -17,7 +17,7 @@ ghost use Rattle.audio_buffer.specs.Verdict.{verdictOf};
 ghost use Rattle.unit.specs.Hall.{ofState, toState};
 ghost use Rattle.unit.specs.Model.{wall};
 ghost use Rattle.reverb.specs.Whole.{outcome};
-ghost use Rattle.jobs.specs.Close.{idle, shut};
+ghost use Rattle.closing.specs.Close.{idle, shut};
 
 // The unit with no frame open, and other cursors, filters and another count.
 pub(crate) fn idle(

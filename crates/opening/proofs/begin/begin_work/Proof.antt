@@ -1,11 +1,11 @@
--- `jobs::steps::begin_work` meets its contract. Assumes nothing.
+-- `opening::begin::begin_work` meets its contract. Assumes nothing.
 use borrow.Author.Needs.{needs}
 use native.Mathlib.Omega.{arith}
 use denote.Ref.{now}
 use lib.ListN.{length}
-use Rattle.jobs.proofs.Opened.{begin-laid, lines-before}
-use Rattle.jobs.proofs.steps.begin_work.Statement.{statement}
-use Rattle.jobs.proofs.steps.begin_work.Tie as tie
+use Rattle.opening.proofs.Opened.{begin-laid, lines-before}
+use Rattle.opening.proofs.begin.begin_work.Statement.{statement}
+use Rattle.opening.proofs.begin.begin_work.Tie as tie
 
 clear-requires : tie.Need-clear-requires
 clear-requires c κs = search needs

@@ -19,7 +19,7 @@ use Rattle.lines.specs.Parts.{rowsFinite}
 use Rattle.lines.specs.Steps.{ended, endedStore, endedWork, endedOutput}
 use Rattle.reverb.specs.declared.Outcome.{Outcome}
 use Rattle.reverb.specs.Whole.{outcome}
-use Rattle.jobs.specs.Close.{idle, closed, shut, cleared, nineOfRows, closeAnswer, closeUnit, closeStore, closeWork, closeOutput, closeVerdict}
+use Rattle.closing.specs.Close.{idle, closed, shut, cleared, nineOfRows, closeAnswer, closeUnit, closeStore, closeWork, closeOutput, closeVerdict}
 
 -- what a close that is due `due` gives and leaves
 abbrev pub Left : Hall → Answer → Rows → Outcome → List Float → List Float → List Float → List Float → List Float → List Float → Type 0

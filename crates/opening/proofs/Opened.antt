@@ -24,7 +24,7 @@ use Rattle.rows.specs.Rows.{joined}
 use Rattle.lines.proofs.RowJoins.{copy-join}
 use Rattle.rows.proofs.RowsOf.{work-fits}
 use Rattle.reverb.proofs.Fits.{Due}
-use Rattle.jobs.specs.Play.{openLaid}
+use Rattle.opening.specs.Play.{openLaid}
 
 -- an accepted open is lent a store and a work memory of its unit's frames
 pub record OpenFits (f store work : ℕ) : Type 0 where

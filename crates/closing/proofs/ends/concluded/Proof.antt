@@ -1,4 +1,4 @@
--- `jobs::ends::concluded` meets its contract. Assumes nothing.
+-- `closing::ends::concluded` meets its contract. Assumes nothing.
 use borrow.Author.Needs.{needs}
 use mathlib.Core.Path.{ap, _∙_}
 use Rattle.samples.specs.declared.Answer.the-variants.{Accepted, NotFinite}
@@ -7,8 +7,8 @@ use Rattle.unit.specs.declared.State.{State}
 use Rattle.unit.specs.Hall.{ofState}
 use Rattle.reverb.specs.Whole.{outcome}
 use Rattle.reverb.proofs.Outcomes.{when, when-not}
-use Rattle.jobs.proofs.ends.concluded.Statement.{statement}
-use Rattle.jobs.proofs.ends.concluded.Tie as tie
+use Rattle.closing.proofs.ends.concluded.Statement.{statement}
+use Rattle.closing.proofs.ends.concluded.Tie as tie
 
 shut-requires : tie.Need-shut-requires
 shut-requires c κs = search needs

@@ -1,4 +1,4 @@
--- `jobs::close` meets its contract. Assumes nothing.
+-- `closing::close` meets its contract. Assumes nothing.
 use borrow.Author.Needs.{needs}
 use denote.Ref.{now}
 use mathlib.Core.Bool.{_&&_, true}
@@ -12,9 +12,9 @@ use Rattle.turns.specs.Turns.{judgedClose}
 use Rattle.rows.specs.Rows.{rowsOf}
 use Rattle.reverb.proofs.Fits.{due-of, room-of}
 use Rattle.reverb.proofs.Outcomes.{refused, let-by}
-use Rattle.jobs.proofs.Closed.{all-as-was, as-ended}
-use Rattle.jobs.proofs.close.Statement.{statement}
-use Rattle.jobs.proofs.close.Tie as tie
+use Rattle.closing.proofs.Closed.{all-as-was, as-ended}
+use Rattle.closing.proofs.close.Statement.{statement}
+use Rattle.closing.proofs.close.Tie as tie
 
 judge-close-requires : tie.Need-judge-close-requires
 judge-close-requires c κs = search needs

@@ -1,4 +1,4 @@
--- `jobs::abandon` meets its contract. Assumes nothing.
+-- `closing::abandon` meets its contract. Assumes nothing.
 use borrow.Author.Needs.{needs}
 use denote.Ref.{now}
 use mathlib.Core.Path.{ap, _∙_}
@@ -9,9 +9,9 @@ use Rattle.unit.specs.Model.{wall}
 use Rattle.turns.specs.Turns.{judgedAbandon}
 use Rattle.reverb.specs.Whole.{outcome}
 use Rattle.reverb.proofs.Outcomes.{old-left, new-left}
-use Rattle.jobs.specs.Close.{shut, cleared}
-use Rattle.jobs.proofs.abandon.Statement.{statement}
-use Rattle.jobs.proofs.abandon.Tie as tie
+use Rattle.closing.specs.Close.{shut, cleared}
+use Rattle.closing.proofs.abandon.Statement.{statement}
+use Rattle.closing.proofs.abandon.Tie as tie
 
 judge-abandon-requires : tie.Need-judge-abandon-requires
 judge-abandon-requires c κs = search needs

@@ -1,4 +1,4 @@
--- `jobs::open_tail` meets its contract. Assumes nothing.
+-- `opening::open_tail` meets its contract. Assumes nothing.
 use borrow.Author.Needs.{needs}
 use denote.Ref.{now}
 use mathlib.Core.Path.{ap, _∙_}
@@ -16,12 +16,12 @@ use Rattle.reverb.specs.Whole.{outcome}
 use Rattle.reverb.proofs.Fits.{due-of}
 use Rattle.reverb.proofs.Outcomes.{old-left, new-left, let-by}
 use Rattle.turns.specs.Turns.{judgedOpenTail}
-use Rattle.jobs.specs.Held.{holding}
-use Rattle.jobs.specs.Play as Play
-use Rattle.jobs.specs.Play.{opened, openWork}
-use Rattle.jobs.proofs.Opened.{open-fits}
-use Rattle.jobs.proofs.open_tail.Statement.{statement}
-use Rattle.jobs.proofs.open_tail.Tie as tie
+use Rattle.opening.specs.Held.{holding}
+use Rattle.opening.specs.Play as Play
+use Rattle.opening.specs.Play.{opened, openWork}
+use Rattle.opening.proofs.Opened.{open-fits}
+use Rattle.opening.proofs.open_tail.Statement.{statement}
+use Rattle.opening.proofs.open_tail.Tie as tie
 
 judge-open-tail-requires : tie.Need-judge-open-tail-requires
 judge-open-tail-requires c κs = search needs
