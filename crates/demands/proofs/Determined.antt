@@ -137,8 +137,8 @@ use Rattle.frame.proofs.copy.Kinds as frame-copy-kinds
 use Rattle.frame.proofs.copy.Reads as frame-copy-reads
 use Rattle.frame.proofs.filters_finite.Kinds as frame-filters-finite-kinds
 use Rattle.frame.proofs.filters_finite.Reads as frame-filters-finite-reads
-use Rattle.lines.proofs.filters_of.Kinds as lines-filters-of-kinds
-use Rattle.lines.proofs.filters_of.Reads as lines-filters-of-reads
+use Rattle.filters.proofs.filters_of.Kinds as filters-filters-of-kinds
+use Rattle.filters.proofs.filters_of.Reads as filters-filters-of-reads
 use Rattle.lines.proofs.run_frame.Kinds as lines-run-frame-kinds
 use Rattle.lines.proofs.run_frame.Reads as lines-run-frame-reads
 use Rattle.reverb.proofs.fresh.Kinds as reverb-fresh-kinds
@@ -179,8 +179,8 @@ use Rattle.rows.proofs.make_line.Kinds as rows-make-line-kinds
 use Rattle.rows.proofs.make_line.Reads as rows-make-line-reads
 use Rattle.rows.proofs.make_output.Kinds as rows-make-output-kinds
 use Rattle.rows.proofs.make_output.Reads as rows-make-output-reads
-use Rattle.lines.proofs.read_line.Kinds as lines-read-line-kinds
-use Rattle.lines.proofs.read_line.Reads as lines-read-line-reads
+use Rattle.reads.proofs.read_line.Kinds as reads-read-line-kinds
+use Rattle.reads.proofs.read_line.Reads as reads-read-line-reads
 use Rattle.reverb.proofs.quiet.Kinds as reverb-quiet-kinds
 use Rattle.reverb.proofs.quiet.Reads as reverb-quiet-reads
 use Rattle.reverb.proofs.fallen.Kinds as reverb-fallen-kinds
@@ -505,8 +505,8 @@ rows-make-output-work κs a x y s t p q = p .1 ∙ sym (q .1)
 
 -- ---- lines
 
-pub lines-filters-of : OneResult 1 lines-filters-of-kinds.ps lines-filters-of-kinds.r lines-filters-of-reads.Post
-lines-filters-of κs a x y s t p q = p ∙ sym (q)
+pub filters-filters-of : OneResult 1 filters-filters-of-kinds.ps filters-filters-of-kinds.r filters-filters-of-reads.Post
+filters-filters-of κs a x y s t p q = p ∙ sym (q)
 
 pub lines-run-frame : OneResult 3 lines-run-frame-kinds.ps lines-run-frame-kinds.r lines-run-frame-reads.Post
 lines-run-frame κs a x y s t p q = p .0 ∙ sym (q .0)
@@ -532,8 +532,8 @@ lines-close-frame-work κs a x y s t p q = p .1 .1 .0 ∙ sym (q .1 .1 .0)
 pub lines-close-frame-output : OneExit 3 lines-close-frame-kinds.ps lines-close-frame-kinds.r lines-close-frame-reads.Post (λ κs s. s .1 .1 .1 .1 .1 .1 .0 .now)
 lines-close-frame-output κs a x y s t p q = p .1 .1 .1 ∙ sym (q .1 .1 .1)
 
-pub lines-read-line-work : OneExit 2 lines-read-line-kinds.ps lines-read-line-kinds.r lines-read-line-reads.Post (λ κs s. s .1 .1 .1 .1 .0 .now)
-lines-read-line-work κs a x y s t p q = p ∙ sym (q)
+pub reads-read-line-work : OneExit 2 reads-read-line-kinds.ps reads-read-line-kinds.r reads-read-line-reads.Post (λ κs s. s .1 .1 .1 .1 .0 .now)
+reads-read-line-work κs a x y s t p q = p ∙ sym (q)
 
 -- ---- reverb
 

@@ -12,12 +12,13 @@ use Rattle.delay.specs.declared.Cursors.{Cursors}
 use Rattle.delay.specs.Calls.{both}
 use Rattle.delay.specs.Ring.{read, write}
 use Rattle.delay.proofs.Laws.{length-read, length-write}
+use Rattle.unit.proofs.Ranges.{length-at, lengths-long}
 use Rattle.unit.specs.Model.{Model}
-use Rattle.unit.specs.Sizes.{lengthsFrom, lineLengths, total}
+use Rattle.unit.specs.Sizes.{lineLengths, total}
 use Rattle.frame.specs.Lines.{readRows}
 use Rattle.frame.specs.Settle.{putRows, movedBy, allMoved}
 use Rattle.frame.proofs.RowLaws.{Held, total-more}
-use Rattle.lines.specs.Rings.{ringAt}
+use Rattle.reads.specs.Rings.{ringAt}
 
 -- the line after i of those from j on is line i of those from j + 1 on
 on : (j i : ℕ) → j + suc i ≡ j + 1 + i
@@ -104,22 +105,11 @@ module _ (f : ℕ) (ls : List ℕ) where
 -- ---- a model's lines
 
 module _ (m : Model) (f : ℕ) where
-  length-lengths : (n j : ℕ) → length (lengthsFrom m f n j) ≡ n
-  unfolding lengthsFrom
-  length-lengths zero j = refl
-  length-lengths (suc n) j = ap suc (length-lengths n (j + 1))
-
-  length-at : (n j i : ℕ) → i < n → getD (lengthsFrom m f n j) i 0 ≡ m .delay (j + i) + f
-  unfolding lengthsFrom
-  length-at zero j i h = absurd (not-suc-le-zero h)
-  length-at (suc n) j zero h = rw add-zero refl
-  length-at (suc n) j (suc i) h = rw (on j i) (length-at n (j + 1) i (omega arith))
-
   pub lines-long : length (lineLengths m f) ≡ m .lines
-  lines-long = length-lengths (m .lines) 0
+  lines-long = lengths-long m f (m .lines) 0
 
   pub line-length : (i : ℕ) → i < m .lines → getD (lineLengths m f) i 0 ≡ m .delay i + f
-  line-length i h = rw zero-add at (length-at (m .lines) 0 i h)
+  line-length i h = rw zero-add at (length-at m f (m .lines) 0 i h)
 
   pub lines-held : (len : ℕ) → total (lineLengths m f) ≤ len → Held f (m .lines) 0 (lineLengths m f) len
   lines-held len h =

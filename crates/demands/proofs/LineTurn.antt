@@ -20,7 +20,7 @@ use Rattle.unit.specs.Sizes.{lineLengths, storeLen, workLen}
 use Rattle.frame.specs.Settle.{putRows, movedBy, allMoved}
 use Rattle.frame.proofs.RowLaws.{Held}
 use Rattle.rows.specs.Rows.{Rows, rowsOf}
-use Rattle.lines.specs.Rings.{ringAt}
+use Rattle.reads.specs.Rings.{ringAt}
 use Rattle.jobs.specs.Steps.{readRow, readWork}
 use Rattle.demands.proofs.Lent.{Lent, cursors, within}
 use Rattle.demands.proofs.LineRings.{row-long, ring-long, put-row, lines-long, line-length, lines-held}

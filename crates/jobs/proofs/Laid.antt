@@ -27,8 +27,8 @@ use Rattle.rows.specs.Rows.{rowsOf, joined}
 use Rattle.rows.specs.Fits.{workFor, WorkFits}
 use Rattle.rows.specs.Parts.{lineLaid, lineEnds, outputLaid, outputEnds}
 use Rattle.rows.proofs.RowsOf.{all-rows}
-use Rattle.lines.specs.Parts.{readLaid}
-use Rattle.lines.proofs.ReadLaid.{read-given}
+use Rattle.reads.specs.Reads.{readLaid}
+use Rattle.reads.proofs.ReadLaid.{read-given}
 use Rattle.reverb.proofs.Fits.{Due}
 use Rattle.jobs.specs.Steps.{readWork, mixLaid, lineWork, lineFilters, outputWork, outputFilters}
 

@@ -16,7 +16,7 @@ use Rattle.unit.specs.Model.{Model}
 use Rattle.unit.specs.Sizes.{lineLengths}
 use Rattle.rows.specs.Rows.{rowsOf, laid}
 use Rattle.rows.specs.Parts.{lineLaid, lineEnds, outputLaid, outputEnds}
-use Rattle.lines.specs.Rings.{ringAt}
+use Rattle.reads.specs.Rings.{ringAt}
 use Rattle.opening.specs.Held.{holding}
 
 -- the unit with the job of mark k done, and its filters then

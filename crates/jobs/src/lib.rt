@@ -5,7 +5,7 @@ mod steps;
 
 use crate::steps::marked;
 use crate::steps::mix_rows;
-use lines::read_line;
+use reads::read_line;
 use reverb::Outcome;
 use reverb::quiet;
 use rows::make_line;

@@ -7,4 +7,3 @@ pub mod FrameParts
 pub mod Room
 pub mod RowsOf
 pub mod Rooms
-pub mod ReadLaid

@@ -1,22 +1,18 @@
--- The turns of the loops that fill an array from the front: cursors moved, filters and lengths. Assumes nothing.
+-- The turns of the loops that fill an array from the front: cursors moved, and lengths. Assumes nothing.
 use mathlib.Core.Path.{_≡_, refl, sym, ap, _∙_}
 use mathlib.Core.List.{List, _∷_, _++_}
 use Prim.Native.Nat.{ℕ, zero, suc, _+_, _*_, _-_, _<_, _≤_}
 use native.Mathlib.Nat.{add-zero, zero-add, not-suc-le-zero}
 use native.Mathlib.Omega.{arith}
-use lib.Ieee.{Float, nan}
 use lib.ListN.{length, getD, take, drop, set, length-set, take-append-drop}
-use lib.Seq.{drop-drop, getD-drop, drop-set-lt}
+use lib.Seq.{drop-drop, drop-set-lt}
 use Rattle.samples.proofs.Turns.{next, stored}
 use Rattle.delay.specs.declared.Cursors.{Cursors}
 use Rattle.delay.specs.Calls.{both}
-use Rattle.iir.specs.declared.Filter.{Filter}
-use Rattle.iir.specs.Step.{fromCoefficients}
 use Rattle.primes.specs.Table.{delayAt}
 use Rattle.unit.specs.Model.{Model, wall}
 use Rattle.unit.specs.Sizes.{lengthsFrom, total, storeLen}
 use Rattle.unit.proofs.Laws.{store-is}
-use Rattle.frame.specs.Lines.{noFilter, filtersOf}
 use Rattle.frame.specs.Settle.{movedBy, allMoved}
 use Rattle.lines.specs.Work.{Within}
 use Rattle.rows.proofs.RowsLeft.{more}
@@ -51,18 +47,6 @@ module _ (n f : ℕ) (ls : List ℕ) (cs X : List Cursors) (i : ℕ) (ds : List 
   move-done h =
       let z : n - i ≡ 0 = omega arith in
       sym (take-append-drop i ds) ∙ rw (v .3) (rw z at (v .4))
-
--- ---- the filters of the coefficients from k on
-
-pub filters-turn : (n i k : ℕ) (cs : List Float) (fs X : List Filter) (g : Filter) → i < n → i < length fs
-    → g ≡ fromCoefficients (getD cs k nan) (getD cs (k + 1) nan) (getD cs (k + 2) nan) (getD cs (k + 3) nan) (getD cs (k + 4) nan)
-    → take i fs ++ filtersOf (n - i) (drop k cs) ≡ X → take (i + 1) (set fs i g) ++ filtersOf (n - (i + 1)) (drop (k + 5) cs) ≡ X
-unfolding filtersOf
-filters-turn n i k cs fs X g h l e q =
-    let at : (j : ℕ) → getD (drop k cs) j nan ≡ getD cs (k + j) nan = λ j. getD-drop k cs j nan in
-    let left : filtersOf (n - i) (drop k cs) ≡ g ∷ filtersOf (n - (i + 1)) (drop (k + 5) cs) =
-    rw (more n i h, at 0, at 1, at 2, at 3, at 4, add-zero k, drop-drop 5 k cs, e) refl in
-    stored fs i noFilter l g left ∙ q
 
 -- ---- the lengths of the rings from line i on
 

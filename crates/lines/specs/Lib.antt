@@ -1,4 +1,3 @@
 pub mod Work
 pub mod Steps
-pub mod Rings
 pub mod Parts

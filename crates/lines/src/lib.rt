@@ -6,36 +6,26 @@
 mod steps;
 mod whole;
 
-use crate::steps::filters_from;
 use crate::steps::line_lengths;
-use crate::steps::line_start;
 use crate::steps::move_lines;
 use crate::steps::move_passes;
 use crate::whole::finish_frame;
 use crate::whole::judge_frame;
 use delay::Cursors;
 use iir::Filter;
-use samples::and;
-use samples::frame_ok;
 use unit::PASSES;
 use unit::room_ok;
-use unit::store_ok;
-use unit::work_ok;
 ghost use mathlib.Core.Path.{_≡_};
-ghost use mathlib.Core.Bool.{true, cond};
-ghost use Prim.Native.Nat.{_<_, _≤_};
-ghost use lib.Dec.{eqb};
-ghost use lib.ListN.{length, take, replicate};
-ghost use Rattle.unit.specs.Fresh.{blank};
+ghost use mathlib.Core.Bool.{true};
+ghost use Prim.Native.Nat.{_≤_};
+ghost use lib.ListN.{length, take};
 ghost use Rattle.unit.specs.Model.{wall};
-ghost use Rattle.unit.specs.Sizes.{lineLengths, storeLen};
+ghost use Rattle.unit.specs.Sizes.{lineLengths};
 ghost use Rattle.unit.specs.Room.{roomOk};
-ghost use Rattle.frame.specs.Lines.{filtersOf};
 ghost use Rattle.frame.specs.Frame.{frameIn};
 ghost use Rattle.lines.specs.Work.{Within, WholeFits};
 ghost use Rattle.rows.specs.Rows.{rowsOf};
-ghost use Rattle.rows.specs.Fits.{WorkFits};
-ghost use Rattle.lines.specs.Parts.{rowsFinite, readLaid, lineRoom};
+ghost use Rattle.lines.specs.Parts.{rowsFinite};
 ghost use Rattle.lines.specs.Steps.{ended, endedStore, endedWork, endedOutput, stepped, steppedStore, steppedOutput};
 
 // What a frame came to: whether all of it is finite, its filters, and the cursors of the rings after
@@ -45,16 +35,6 @@ pub struct Stepped {
     pub filters: [Filter; 51],
     pub lines: [Cursors; 16],
     pub passes: [Cursors; 4],
-}
-
-// The filters of the given coefficients, with no history. Of another number than 255 they are blank.
-pub fn filters_of(coefficients: &[f32]) -> [Filter; 51]
-    ensures { λ r. ⌜ r ≡ cond (eqb (length (now (coefficients .entry))) 255) (filtersOf 51 (now (coefficients .entry))) (replicate 51 blank) ⌝ }
-{
-    if coefficients.len() != 255 {
-        return [iir::new_from_coefficients(0.0, 0.0, 0.0, 0.0, 0.0); 51];
-    }
-    filters_from(coefficients)
 }
 
 // A whole frame of the wall unit: through the filters `fs`, on lines with the cursors `cs` and
@@ -193,37 +173,4 @@ fn wall_close(
     let ls = line_lengths(f);
     let ok = finish_frame(16, f, ls, cs, fs, store, work, output);
     moved_on(ok, f, ls, cs, qs, fs)
-}
-
-// Step 2 of line i, whose cursors are `c`: reads its row into the work memory. On a store or a work
-// memory that isn't one of such frames nothing is done.
-pub fn read_line(i: usize, f: usize, c: Cursors, store: &[f32], work: &mut [f32])
-    ensures { λ _. ⌜ now (work .exit) ≡ readLaid wall f i c (lineRoom wall f i (length (now (store .entry))) (length (now (work .entry)))) (now (store .entry)) (now (work .entry)) ⌝ }
-{
-    if !line_room(i, f, store.len(), work.len()) {
-        return;
-    }
-    wall_read(i, f, c, store, work);
-}
-
-// Whether there is such a line, and the memory is one of frames of f samples.
-fn line_room(i: usize, f: usize, store: usize, work: usize) -> bool
-    ensures { λ r. ⌜ r ≡ lineRoom wall f i store work ⌝ }
-{
-    and(
-        i < 16,
-        and(and(frame_ok(f), work_ok(f, work)), store_ok(f, store)),
-    )
-}
-
-// The same on memory that is.
-fn wall_read(i: usize, f: usize, c: Cursors, store: &[f32], work: &mut [f32])
-    requires { ⌜ (i < 16) × WorkFits wall f (length (now work)) × (length (now store) ≡ storeLen wall f) ⌝ }
-    ensures { λ _. ⌜ now (work .exit) ≡ readLaid wall f i c true (now (store .entry)) (now (work .entry)) ⌝ }
-{
-    let a = line_start(i, f);
-    let e = a + (primes::delay(i) + f);
-    let b = f + i * f;
-    let t = b + f;
-    delay::get(&store[a..e], c, &mut work[b..t]);
 }

@@ -3,7 +3,6 @@
 // The length of a line's ring and its cursors stand at the line's place in arrays of sixteen, which a
 // unit of fewer lines pads.
 use delay::Cursors;
-use iir::Filter;
 use samples::Samples;
 ghost use mathlib.Core.Path.{_≡_};
 ghost use mathlib.Core.List.{_++_};
@@ -11,7 +10,7 @@ ghost use Prim.Native.Nat.{_+_, _-_, _<_, _≤_};
 ghost use lib.ListN.{length, take, drop};
 ghost use Rattle.unit.specs.Model.{wall};
 ghost use Rattle.unit.specs.Sizes.{lineLengths, total};
-ghost use Rattle.frame.specs.Lines.{filtersOf, readRows};
+ghost use Rattle.frame.specs.Lines.{readRows};
 ghost use Rattle.frame.specs.Settle.{putRows, movedBy, allMoved};
 ghost use Rattle.lines.specs.Work.{LinesFit, Within};
 
@@ -25,39 +24,6 @@ pub(crate) fn line_lengths(frame: usize) -> [usize; 16]
         ls[i] = primes::delay(i) + frame;
     }
     ls
-}
-
-// Where the ring of line i begins in a store.
-pub(crate) fn line_start(i: usize, frame: usize) -> usize
-    requires { ⌜ (i ≤ 16) × (frame ≤ 1024) ⌝ }
-    ensures { λ r. ⌜ r ≡ total (take i (lineLengths wall frame)) ⌝ }
-{
-    let mut a = 0usize;
-    for j in 0..i {
-        a += primes::delay(j) + frame;
-    }
-    a
-}
-
-// The filters of 255 coefficients, with no history.
-pub(crate) fn filters_from(coefficients: &[f32]) -> [Filter; 51]
-    requires { ⌜ length (now coefficients) ≡ 255 ⌝ }
-    ensures { λ r. ⌜ r ≡ filtersOf 51 (now (coefficients .entry)) ⌝ }
-{
-    let blank = iir::new_from_coefficients(0.0, 0.0, 0.0, 0.0, 0.0);
-    let mut fs = [blank; 51];
-    let mut k = 0usize;
-    for i in 0..51usize {
-        fs[i] = iir::new_from_coefficients(
-            coefficients[k],
-            coefficients[k + 1],
-            coefficients[k + 2],
-            coefficients[k + 3],
-            coefficients[k + 4],
-        );
-        k += 5;
-    }
-    fs
 }
 
 // Reads a frame of each line, row after row.

@@ -8,7 +8,7 @@ use crate::begin::begin_work;
 use crate::begin::opened;
 use bands::Times;
 use bands::tail_count;
-use lines::filters_of;
+use filters::filters_of;
 use reverb::Outcome;
 use reverb::fallen;
 use reverb::quiet;

@@ -19,7 +19,7 @@ use Rattle.turns.specs.Marks.{marked}
 use Rattle.turns.specs.Turns.{judgedRead}
 use Rattle.rows.specs.Fits.{workFor}
 use Rattle.rows.proofs.RowsOf.{work-fits}
-use Rattle.lines.specs.Parts.{lineRoom}
+use Rattle.reads.specs.Reads.{lineRoom}
 use Rattle.reverb.specs.Whole.{outcome}
 use Rattle.reverb.proofs.Fits.{Due, due-of}
 use Rattle.reverb.proofs.Outcomes.{old-left, new-left, let-by}
@@ -30,7 +30,7 @@ use Rattle.jobs.proofs.job_read.Tie as tie
 use Rattle.jobs.proofs.job_read.Reads as reads
 use Rattle.jobs.proofs.job_read.Lts as lts
 use Rattle.jobs.proofs.steps.marked.Reads as marked-reads
-use Rattle.lines.proofs.read_line.Reads as read-line-reads
+use Rattle.reads.proofs.read_line.Reads as read-line-reads
 use Rattle.reverb.proofs.quiet.Reads as quiet-reads
 use Rattle.samples.proofs.is_accepted.Reads as is-accepted-reads
 use Rattle.turns.proofs.judge_read.Reads as judge-read-reads

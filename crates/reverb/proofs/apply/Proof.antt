@@ -23,7 +23,7 @@ use Rattle.judges.proofs.judge_apply.Reads as judge-apply-reads
 use Rattle.samples.proofs.is_accepted.Reads as is-accepted-reads
 use Rattle.reverb.proofs.units.quiet.Reads as quiet-reads
 use Rattle.bands.proofs.tail_count.Reads as tail-count-reads
-use Rattle.lines.proofs.filters_of.Reads as filters-of-reads
+use Rattle.filters.proofs.filters_of.Reads as filters-of-reads
 use Rattle.frame.proofs.copy.Reads as copy-reads
 use Rattle.reverb.proofs.units.whole_frame.Reads as whole-frame-reads
 

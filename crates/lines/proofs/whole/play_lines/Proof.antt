@@ -4,10 +4,6 @@ use denote.Ref.{now}
 use Rattle.lines.proofs.RowJoins.{lines-join}
 use Rattle.lines.proofs.whole.play_lines.Statement.{statement}
 use Rattle.lines.proofs.whole.play_lines.Tie as tie
-use Rattle.lines.proofs.whole.play_lines.Reads as reads
-use Rattle.lines.proofs.whole.play_lines.Lts as lts
-use Rattle.lines.proofs.steps.read_lines.Reads as read-lines-reads
-use Rattle.rows.proofs.line_rows.Reads as line-rows-reads
 
 mul-at : tie.Need-mul-at
 mul-at c = search needs

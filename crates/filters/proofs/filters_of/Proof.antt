@@ -1,10 +1,10 @@
--- `lines::filters_of` meets its contract. Assumes nothing.
+-- `filters::filters_of` meets its contract. Assumes nothing.
 use borrow.Author.Needs.{needs}
 use borrow.Author.Tests.{ne-eqb, eq-eqb}
 use mathlib.Core.Path.{ap}
 use lib.ListN.{replicate}
-use Rattle.lines.proofs.filters_of.Statement.{statement}
-use Rattle.lines.proofs.filters_of.Tie as tie
+use Rattle.filters.proofs.filters_of.Statement.{statement}
+use Rattle.filters.proofs.filters_of.Tie as tie
 
 new-from-coefficients-requires : tie.Need-new-from-coefficients-requires
 new-from-coefficients-requires c κs = search needs

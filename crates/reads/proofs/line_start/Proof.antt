@@ -1,4 +1,4 @@
--- `lines::steps::line_start` meets its contract. The invariant: where line j begins. Assumes nothing.
+-- `reads::line_start` meets its contract. The invariant: where line j begins. Assumes nothing.
 use borrow.Author.Needs.{needs}
 use native.Mathlib.Omega.{arith}
 use mathlib.Core.Path.{_≡_, refl, ap, _∙_}
@@ -7,12 +7,9 @@ use lib.ListN.{take}
 use Rattle.primes.proofs.Table.{delay-range}
 use Rattle.unit.specs.Model.{wall}
 use Rattle.unit.specs.Sizes.{lineLengths, total}
-use Rattle.lines.proofs.ReadLaid.{Starts, start-turn}
-use Rattle.lines.proofs.steps.line_start.Statement.{statement}
-use Rattle.lines.proofs.steps.line_start.Tie as tie
-use Rattle.lines.proofs.steps.line_start.Reads as reads
-use Rattle.lines.proofs.steps.line_start.Lts as lts
-use Rattle.primes.proofs.delay.Reads as delay-reads
+use Rattle.reads.proofs.ReadLaid.{Starts, start-turn}
+use Rattle.reads.proofs.line_start.Statement.{statement}
+use Rattle.reads.proofs.line_start.Tie as tie
 
 abbrev Inv-loop : tie.InvT-loop
 Inv-loop i frame a₀ j₀ a j = Starts frame i j a

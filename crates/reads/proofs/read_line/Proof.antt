@@ -1,4 +1,4 @@
--- `lines::read_line` meets its contract. Assumes nothing.
+-- `reads::read_line` meets its contract. Assumes nothing.
 use borrow.Author.Needs.{needs}
 use denote.Ref.{now}
 use mathlib.Core.Path.{_≡_, refl}
@@ -9,14 +9,10 @@ use lib.Ieee.{Float}
 use Rattle.delay.specs.declared.Cursors.{Cursors}
 use Rattle.unit.specs.Model.{wall}
 use Rattle.rows.proofs.Ways.{shut, let-in}
-use Rattle.lines.specs.Parts.{readLaid}
-use Rattle.lines.proofs.ReadLaid.{line-fits}
-use Rattle.lines.proofs.read_line.Statement.{statement}
-use Rattle.lines.proofs.read_line.Tie as tie
-use Rattle.lines.proofs.read_line.Reads as reads
-use Rattle.lines.proofs.read_line.Lts as lts
-use Rattle.lines.proofs.line_room.Reads as line-room-reads
-use Rattle.lines.proofs.wall_read.Reads as wall-read-reads
+use Rattle.reads.specs.Reads.{readLaid}
+use Rattle.reads.proofs.ReadLaid.{line-fits}
+use Rattle.reads.proofs.read_line.Statement.{statement}
+use Rattle.reads.proofs.read_line.Tie as tie
 
 line-room-requires : tie.Need-line-room-requires
 line-room-requires c κs = search needs

@@ -32,9 +32,9 @@ use Rattle.rows.proofs.RowFits.{row-in}
 use Rattle.rows.proofs.RowJoins.{total-next, total-front}
 use Rattle.rows.proofs.RowsOf.{work-fits}
 use Rattle.rows.proofs.LineLaid.{read-set, read-at}
-use Rattle.lines.specs.Rings.{ringAt}
-use Rattle.lines.specs.Parts.{readIn, readLaid, lineRoom}
-use Rattle.lines.proofs.Room.{length-at, cursors-at}
+use Rattle.reads.specs.Rings.{ringAt}
+use Rattle.reads.specs.Reads.{readIn, readLaid, lineRoom}
+use Rattle.unit.proofs.Ranges.{length-at, cursors-at}
 
 -- ring i from line j on begins after the i rings before it
 ring-from : (ls : List ℕ) (i j : ℕ) (store : List Float) → ringAt ls j i store ≡ take (getD ls (j + i) 0) (drop (total (take i (drop j ls))) store)

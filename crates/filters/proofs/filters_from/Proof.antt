@@ -1,4 +1,4 @@
--- `lines::steps::filters_from` meets its contract. The invariant: the filters so far, then those of the coefficients left, are the answer.
+-- `filters::filters_from` meets its contract. The invariant: the filters so far, then those of the coefficients left, are the answer.
 -- Assumes nothing.
 use borrow.Author.Needs.{needs}
 use native.Mathlib.Omega.{arith}
@@ -9,9 +9,9 @@ use lib.ListN.{length, take, drop, length-set}
 use denote.Ref.{now}
 use Rattle.samples.proofs.Turns.{all-done}
 use Rattle.frame.specs.Lines.{filtersOf}
-use Rattle.lines.proofs.LineFills.{filters-turn}
-use Rattle.lines.proofs.steps.filters_from.Statement.{statement}
-use Rattle.lines.proofs.steps.filters_from.Tie as tie
+use Rattle.filters.proofs.Turns.{filters-turn}
+use Rattle.filters.proofs.filters_from.Statement.{statement}
+use Rattle.filters.proofs.filters_from.Tie as tie
 
 abbrev Inv-loop : tie.InvT-loop
 Inv-loop coefficients fs₀ k₀ i₀ fs k i =

@@ -1,4 +1,4 @@
--- `lines::wall_read` meets its contract. Assumes nothing.
+-- `reads::wall_read` meets its contract. Assumes nothing.
 use native.Mathlib.Omega.{arith}
 use borrow.Author.Needs.{needs}
 use denote.Ref.{now}
@@ -6,13 +6,13 @@ use Prim.Native.Nat.{_+_, _*_, _≤_}
 use lib.ListN.{length}
 use Rattle.rows.proofs.RowFits.{row-in}
 use Rattle.unit.proofs.Laws.{store-is}
-use Rattle.lines.proofs.ReadLaid.{ring-within, row-within, read-laid}
-use Rattle.lines.proofs.wall_read.Statement.{statement}
-use Rattle.lines.proofs.wall_read.Tie as tie
-use Rattle.lines.proofs.wall_read.Reads as reads
-use Rattle.lines.proofs.wall_read.Lts as lts
+use Rattle.reads.proofs.ReadLaid.{ring-within, row-within, read-laid}
+use Rattle.reads.proofs.wall_read.Statement.{statement}
+use Rattle.reads.proofs.wall_read.Tie as tie
+use Rattle.reads.proofs.wall_read.Reads as reads
+use Rattle.reads.proofs.wall_read.Lts as lts
 use Rattle.delay.proofs.get.Reads as get-reads
-use Rattle.lines.proofs.steps.line_start.Reads as line-start-reads
+use Rattle.reads.proofs.line_start.Reads as line-start-reads
 use Rattle.primes.proofs.delay.Reads as delay-reads
 
 -- line i's ring ends within the store, and its row within the work memory

@@ -1,16 +1,10 @@
--- `lines::line_room` meets its contract. Assumes nothing.
+-- `reads::line_room` meets its contract. Assumes nothing.
 use borrow.Author.Needs.{needs}
 use mathlib.Core.Path.{_∙_}
 use mathlib.Core.Bool.{_&&_}
 use lib.Dec.{ltb}
-use Rattle.lines.proofs.line_room.Statement.{statement}
-use Rattle.lines.proofs.line_room.Tie as tie
-use Rattle.lines.proofs.line_room.Reads as reads
-use Rattle.lines.proofs.line_room.Lts as lts
-use Rattle.samples.proofs.and.Reads as and-reads
-use Rattle.samples.proofs.frame_ok.Reads as frame-ok-reads
-use Rattle.unit.proofs.store_ok.Reads as store-ok-reads
-use Rattle.unit.proofs.work_ok.Reads as work-ok-reads
+use Rattle.reads.proofs.line_room.Statement.{statement}
+use Rattle.reads.proofs.line_room.Tie as tie
 
 frame-ok-requires : tie.Need-frame-ok-requires
 frame-ok-requires c κs = search needs
