@@ -17,8 +17,8 @@ use Rattle.lines.specs.declared.Stepped.{Stepped}
 use Rattle.rows.specs.Rows.{Rows}
 use Rattle.lines.specs.Parts.{rowsFinite}
 use Rattle.lines.specs.Steps.{ended, endedStore, endedWork, endedOutput}
-use Rattle.reverb.specs.declared.Outcome.{Outcome}
-use Rattle.reverb.specs.Whole.{outcome}
+use Rattle.silence.specs.declared.Outcome.{Outcome}
+use Rattle.silence.specs.Silence.{outcome}
 use Rattle.closing.specs.Close.{idle, closed, shut, cleared, nineOfRows, closeAnswer, closeUnit, closeStore, closeWork, closeOutput, closeVerdict}
 
 -- what a close that is due `due` gives and leaves

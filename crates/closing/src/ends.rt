@@ -3,10 +3,10 @@ use audio_buffer::verdict;
 use delay::Cursors;
 use iir::Filter;
 use lines::Stepped;
-use reverb::Outcome;
-use reverb::quiet;
 use samples::Answer;
 use samples::Frames;
+use silence::Outcome;
+use silence::quiet;
 use unit::State;
 use unit::fresh_state;
 ghost use mathlib.Core.Path.{_≡_};
@@ -16,7 +16,7 @@ ghost use Rattle.audio_buffer.specs.declared.AudioEffectState.the-variants.{Tai
 ghost use Rattle.audio_buffer.specs.Verdict.{verdictOf};
 ghost use Rattle.unit.specs.Hall.{ofState, toState};
 ghost use Rattle.unit.specs.Model.{wall};
-ghost use Rattle.reverb.specs.Whole.{outcome};
+ghost use Rattle.silence.specs.Silence.{outcome};
 ghost use Rattle.closing.specs.Close.{idle, shut};
 
 // The unit with no frame open, and other cursors, filters and another count.

@@ -6,10 +6,10 @@ mod ends;
 use crate::ends::concluded;
 use crate::ends::shut;
 use lines::close_frame;
-use reverb::Outcome;
-use reverb::quiet;
 use samples::clear;
 use samples::is_accepted;
+use silence::Outcome;
+use silence::quiet;
 use turns::judge_abandon;
 use turns::judge_close;
 use unit::State;
@@ -21,7 +21,7 @@ ghost use Rattle.unit.specs.Hall.{ofState};
 ghost use Rattle.unit.specs.Model.{wall};
 ghost use Rattle.turns.specs.Turns.{judgedClose, judgedAbandon};
 ghost use Rattle.rows.specs.Rows.{rowsOf};
-ghost use Rattle.reverb.specs.Whole.{outcome};
+ghost use Rattle.silence.specs.Silence.{outcome};
 ghost use Rattle.closing.specs.Close.{shut, cleared, closeAnswer, closeUnit, closeStore, closeWork, closeOutput, closeVerdict};
 
 // Ends a frame of which every job is done: puts its rows into the lines, writes the output, moves the

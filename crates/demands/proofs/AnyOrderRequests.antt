@@ -19,7 +19,8 @@ use Rattle.unit.specs.Sizes.{lineLengths}
 use Rattle.judges.specs.Judges.{judgedFresh, judgedReset}
 use Rattle.frame.specs.Settle.{frameFinite, settled, putRows}
 use Rattle.frame.specs.Frame.{newFilters}
-use Rattle.reverb.specs.Whole.{counted, after as played, wholeAnswer, wholeUnit, wholeStore, wholeWork}
+use Rattle.silence.specs.Silence.{counted}
+use Rattle.reverb.specs.Whole.{after as played, wholeAnswer, wholeUnit, wholeStore, wholeWork}
 use Rattle.turns.specs.Marks.{mixMark, lineMark, outputMark, allRead}
 use Rattle.rows.specs.Rows.{rowsOf}
 use Rattle.turns.specs.Turns.{judgedClose}

@@ -141,10 +141,10 @@ use Rattle.filters.proofs.filters_of.Kinds as filters-filters-of-kinds
 use Rattle.filters.proofs.filters_of.Reads as filters-filters-of-reads
 use Rattle.lines.proofs.run_frame.Kinds as lines-run-frame-kinds
 use Rattle.lines.proofs.run_frame.Reads as lines-run-frame-reads
-use Rattle.reverb.proofs.fresh.Kinds as reverb-fresh-kinds
-use Rattle.reverb.proofs.fresh.Reads as reverb-fresh-reads
-use Rattle.reverb.proofs.reset.Kinds as reverb-reset-kinds
-use Rattle.reverb.proofs.reset.Reads as reverb-reset-reads
+use Rattle.silence.proofs.fresh.Kinds as silence-fresh-kinds
+use Rattle.silence.proofs.fresh.Reads as silence-fresh-reads
+use Rattle.silence.proofs.reset.Kinds as silence-reset-kinds
+use Rattle.silence.proofs.reset.Reads as silence-reset-reads
 use Rattle.reverb.proofs.apply.Kinds as reverb-apply-kinds
 use Rattle.reverb.proofs.apply.Reads as reverb-apply-reads
 use Rattle.reverb.proofs.tail.Kinds as reverb-tail-kinds
@@ -181,10 +181,10 @@ use Rattle.rows.proofs.make_output.Kinds as rows-make-output-kinds
 use Rattle.rows.proofs.make_output.Reads as rows-make-output-reads
 use Rattle.reads.proofs.read_line.Kinds as reads-read-line-kinds
 use Rattle.reads.proofs.read_line.Reads as reads-read-line-reads
-use Rattle.reverb.proofs.quiet.Kinds as reverb-quiet-kinds
-use Rattle.reverb.proofs.quiet.Reads as reverb-quiet-reads
-use Rattle.reverb.proofs.fallen.Kinds as reverb-fallen-kinds
-use Rattle.reverb.proofs.fallen.Reads as reverb-fallen-reads
+use Rattle.silence.proofs.quiet.Kinds as silence-quiet-kinds
+use Rattle.silence.proofs.quiet.Reads as silence-quiet-reads
+use Rattle.silence.proofs.fallen.Kinds as silence-fallen-kinds
+use Rattle.silence.proofs.fallen.Reads as silence-fallen-reads
 use Rattle.closing.proofs.close.Kinds as closing-close-kinds
 use Rattle.closing.proofs.close.Reads as closing-close-reads
 use Rattle.closing.proofs.abandon.Kinds as closing-abandon-kinds
@@ -537,17 +537,17 @@ reads-read-line-work κs a x y s t p q = p ∙ sym (q)
 
 -- ---- reverb
 
-pub reverb-fresh : OneResult 1 reverb-fresh-kinds.ps reverb-fresh-kinds.r reverb-fresh-reads.Post
-reverb-fresh κs a x y s t p q = p .0 ∙ sym (q .0)
+pub silence-fresh : OneResult 1 silence-fresh-kinds.ps silence-fresh-kinds.r silence-fresh-reads.Post
+silence-fresh κs a x y s t p q = p .0 ∙ sym (q .0)
 
-pub reverb-fresh-store : OneExit 1 reverb-fresh-kinds.ps reverb-fresh-kinds.r reverb-fresh-reads.Post (λ κs s. s .1 .1 .0 .now)
-reverb-fresh-store κs a x y s t p q = p .1 ∙ sym (q .1)
+pub silence-fresh-store : OneExit 1 silence-fresh-kinds.ps silence-fresh-kinds.r silence-fresh-reads.Post (λ κs s. s .1 .1 .0 .now)
+silence-fresh-store κs a x y s t p q = p .1 ∙ sym (q .1)
 
-pub reverb-reset : OneResult 1 reverb-reset-kinds.ps reverb-reset-kinds.r reverb-reset-reads.Post
-reverb-reset κs a x y s t p q = p .0 ∙ sym (q .0)
+pub silence-reset : OneResult 1 silence-reset-kinds.ps silence-reset-kinds.r silence-reset-reads.Post
+silence-reset κs a x y s t p q = p .0 ∙ sym (q .0)
 
-pub reverb-reset-store : OneExit 1 reverb-reset-kinds.ps reverb-reset-kinds.r reverb-reset-reads.Post (λ κs s. s .1 .0 .now)
-reverb-reset-store κs a x y s t p q = p .1 ∙ sym (q .1)
+pub silence-reset-store : OneExit 1 silence-reset-kinds.ps silence-reset-kinds.r silence-reset-reads.Post (λ κs s. s .1 .0 .now)
+silence-reset-store κs a x y s t p q = p .1 ∙ sym (q .1)
 
 pub reverb-apply : OneResult 5 reverb-apply-kinds.ps reverb-apply-kinds.r reverb-apply-reads.Post
 reverb-apply κs a x y s t p q = p .0 ∙ sym (q .0)
@@ -573,11 +573,11 @@ reverb-tail-work κs a x y s t p q = p .1 .1 .0 ∙ sym (q .1 .1 .0)
 pub reverb-tail-output : OneExit 3 reverb-tail-kinds.ps reverb-tail-kinds.r reverb-tail-reads.Post (λ κs s. s .1 .1 .1 .0 .now)
 reverb-tail-output κs a x y s t p q = p .1 .1 .1 ∙ sym (q .1 .1 .1)
 
-pub reverb-quiet : OneResult 0 reverb-quiet-kinds.ps reverb-quiet-kinds.r reverb-quiet-reads.Post
-reverb-quiet κs a x y s t p q = p ∙ sym (q)
+pub silence-quiet : OneResult 0 silence-quiet-kinds.ps silence-quiet-kinds.r silence-quiet-reads.Post
+silence-quiet κs a x y s t p q = p ∙ sym (q)
 
-pub reverb-fallen : OneResult 0 reverb-fallen-kinds.ps reverb-fallen-kinds.r reverb-fallen-reads.Post
-reverb-fallen κs a x y s t p q = p ∙ sym (q)
+pub silence-fallen : OneResult 0 silence-fallen-kinds.ps silence-fallen-kinds.r silence-fallen-reads.Post
+silence-fallen κs a x y s t p q = p ∙ sym (q)
 
 -- ---- turns
 

@@ -15,7 +15,7 @@ use Rattle.unit.specs.Hall.{Hall, ofState, toState}
 use Rattle.unit.specs.Model.{wall}
 use Rattle.turns.specs.Marks.{mixMark, lineMark, outputMark}
 use Rattle.turns.specs.Turns.{judgedOpenApply, judgedOpenTail, judgedRead, judgedMix, judgedLine, judgedOutput, judgedClose, judgedAbandon}
-use Rattle.reverb.specs.declared.Outcome.{Outcome}
+use Rattle.silence.specs.declared.Outcome.{Outcome}
 use Rattle.opening.specs.Play as Play
 use Rattle.opening.specs.Play.{opened, openWork}
 use Rattle.jobs.specs.Steps.{markedUnit, readWork, mixWork, lineWork, lineFilters, outputWork, outputFilters}

@@ -28,7 +28,8 @@ use Rattle.unit.specs.Fresh.{freshHall}
 use Rattle.judges.specs.Judges.{storeOk, workOk}
 use Rattle.frame.specs.Frame.{frameFrom, newFilters}
 use Rattle.frame.specs.Settle.{nineOf, settled, settledIn, allMoved, putRows}
-use Rattle.reverb.specs.Whole.{after as played, counted, wholeAnswer, wholeUnit, wholeStore}
+use Rattle.silence.specs.Silence.{counted}
+use Rattle.reverb.specs.Whole.{after as played, wholeAnswer, wholeUnit, wholeStore}
 use Rattle.turns.specs.Marks.{marked, mixMark, lineMark, outputMark}
 use Rattle.rows.specs.Rows.{rowsOf}
 use Rattle.turns.specs.Turns.{judgedClose}

@@ -25,12 +25,13 @@ use Rattle.unit.specs.Range.{inRange}
 use Rattle.judges.specs.Judges.{judged, judgedFresh, judgedReset, judgedTail, judgedApply, judgedGiven, badInput, givenOk, lentOk}
 use Rattle.frame.specs.Frame.{Frame, newFilters}
 use Rattle.frame.specs.Settle.{frameFinite, settled, fallen}
-use Rattle.reverb.specs.declared.Outcome.{Outcome}
-use Rattle.reverb.specs.Whole.{after, counted, applyFrame, applyCount, tailFrame, wholeAnswer, wholeUnit, wholeStore, wholeWork, wholeOutput}
-use Rattle.reverb.proofs.fresh.Kinds as reverb-fresh-kinds
-use Rattle.reverb.proofs.fresh.Reads as reverb-fresh-reads
-use Rattle.reverb.proofs.reset.Kinds as reverb-reset-kinds
-use Rattle.reverb.proofs.reset.Reads as reverb-reset-reads
+use Rattle.silence.specs.declared.Outcome.{Outcome}
+use Rattle.silence.specs.Silence.{counted}
+use Rattle.reverb.specs.Whole.{after, applyFrame, applyCount, tailFrame, wholeAnswer, wholeUnit, wholeStore, wholeWork, wholeOutput}
+use Rattle.silence.proofs.fresh.Kinds as silence-fresh-kinds
+use Rattle.silence.proofs.fresh.Reads as silence-fresh-reads
+use Rattle.silence.proofs.reset.Kinds as silence-reset-kinds
+use Rattle.silence.proofs.reset.Reads as silence-reset-reads
 use Rattle.reverb.proofs.apply.Kinds as reverb-apply-kinds
 use Rattle.reverb.proofs.apply.Reads as reverb-apply-reads
 use Rattle.reverb.proofs.tail.Kinds as reverb-tail-kinds
@@ -46,16 +47,16 @@ state-of x = x .state
 
 -- ---- fresh and reset
 
-pub reverb-fresh-store : Unchanged 1 reverb-fresh-kinds.ps reverb-fresh-kinds.r reverb-fresh-reads.Post (λ κs x. x .answer) (λ κs x s. s .1 .1 .0 .now) (λ κs a. a .1 .1 .0 .now)
-reverb-fresh-store κs a x s p h =
+pub silence-fresh-store : Unchanged 1 silence-fresh-kinds.ps silence-fresh-kinds.r silence-fresh-reads.Post (λ κs x. x .answer) (λ κs x s. s .1 .1 .0 .now) (λ κs a. a .1 .1 .0 .now)
+silence-fresh-store κs a x s p h =
     kept (x .answer) (judgedFresh wall (a .0) (a .1 .0) (length (a .1 .1 .0 .now))) (replicate (length (a .1 .1 .0 .now)) +0) (a .1 .1 .0 .now) (p .1) (ap answer-of (p .0)) h
 
-pub reverb-reset-store : Unchanged 1 reverb-reset-kinds.ps reverb-reset-kinds.r reverb-reset-reads.Post (λ κs x. x .answer) (λ κs x s. s .1 .0 .now) (λ κs a. a .1 .0 .now)
-reverb-reset-store κs a x s p h =
+pub silence-reset-store : Unchanged 1 silence-reset-kinds.ps silence-reset-kinds.r silence-reset-reads.Post (λ κs x. x .answer) (λ κs x s. s .1 .0 .now) (λ κs a. a .1 .0 .now)
+silence-reset-store κs a x s p h =
     kept (x .answer) (judgedReset wall (ofState (a .0)) (length (a .1 .0 .now))) (replicate (length (a .1 .0 .now)) +0) (a .1 .0 .now) (p .1) (ap answer-of (p .0)) h
 
-pub reverb-reset-state : Unchanged 1 reverb-reset-kinds.ps reverb-reset-kinds.r reverb-reset-reads.Post (λ κs x. x .answer) (λ κs x s. x .state) (λ κs a. a .0)
-reverb-reset-state κs a x s p h =
+pub silence-reset-state : Unchanged 1 silence-reset-kinds.ps silence-reset-kinds.r silence-reset-reads.Post (λ κs x. x .answer) (λ κs x s. x .state) (λ κs a. a .0)
+silence-reset-state κs a x s p h =
     let due = judgedReset wall (ofState (a .0)) (length (a .1 .0 .now)) in
     ap state-of (p .0) ∙ ap toState (accept-no due (counted (ofState (a .0)) (pos 0)) (ofState (a .0)) (sym (ap accepted (ap answer-of (p .0))) ∙ h))
 

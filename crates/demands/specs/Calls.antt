@@ -9,7 +9,8 @@ use Rattle.audio_buffer.specs.declared.AudioEffectState.the-variants.{TailCompl
 use Rattle.audio_buffer.specs.Verdict.{verdictOf}
 use Rattle.unit.specs.Model.{Model}
 use Rattle.judges.specs.Judges.{judgedReset}
-use Rattle.reverb.specs.Whole.{resetUnit, resetStore, wholeAnswer, wholeUnit, wholeStore, wholeOutput, wholeWork}
+use Rattle.silence.specs.Silence.{resetUnit, resetStore}
+use Rattle.reverb.specs.Whole.{wholeAnswer, wholeUnit, wholeStore, wholeOutput, wholeWork}
 use Rattle.rows.specs.Rows.{rowsOf}
 use Rattle.turns.specs.Turns.{judgedClose, judgedAbandon}
 use Rattle.opening.specs.Play.{Play, countFor, inputFor, frameFor, wholeDue, openDue, opened, openWork}

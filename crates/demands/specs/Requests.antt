@@ -9,7 +9,7 @@ use Rattle.samples.specs.declared.Answer.{Answer}
 use Rattle.samples.specs.Answers.{numberOf}
 use Rattle.unit.specs.Model.{Model}
 use Rattle.judges.specs.Judges.{judgedFresh}
-use Rattle.reverb.specs.Whole.{freshStore}
+use Rattle.silence.specs.Silence.{freshStore}
 use Rattle.demands.specs.Jobs.{Memory}
 use Rattle.demands.specs.Calls.{Call, answer, after}
 

@@ -3,7 +3,7 @@ use Prim.Native.Nat.{ℕ}
 use mathlib.Core.List.{List, [], _∷_}
 use lib.ListN.{length}
 use Rattle.unit.specs.Model.{Model}
-use Rattle.reverb.specs.Whole.{freshUnit, freshStore}
+use Rattle.silence.specs.Silence.{freshUnit, freshStore}
 use Rattle.demands.specs.Jobs.{Memory}
 use Rattle.demands.specs.Requests.{Request, request}
 

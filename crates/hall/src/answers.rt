@@ -7,9 +7,9 @@ use audio_buffer::AudioEffectState;
 use delay::FourAnswer;
 use delay::RingAnswer;
 use primes::Value;
-use reverb::Outcome;
 use samples::index;
 use samples::number;
+use silence::Outcome;
 ghost use mathlib.Core.Path.{_≡_};
 ghost use Rattle.hall.specs.Face.{remains, faced, facedRing, facedFour, facedValue};
 

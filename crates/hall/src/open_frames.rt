@@ -13,7 +13,7 @@ ghost use Rattle.unit.specs.Model.{wall};
 ghost use Rattle.turns.specs.Marks.{mixMark, lineMark, outputMark};
 ghost use Rattle.turns.specs.Turns.{judgedOpenApply, judgedOpenTail, judgedRead, judgedMix, judgedLine, judgedOutput, judgedClose, judgedAbandon};
 ghost use Rattle.rows.specs.Rows.{rowsOf};
-ghost use Rattle.reverb.specs.Whole.{outcome};
+ghost use Rattle.silence.specs.Silence.{outcome};
 ghost use Rattle.opening.specs.Play as Play;
 ghost use Rattle.opening.specs.Play.{opened, openWork};
 ghost use Rattle.jobs.specs.Steps.{markedUnit, readWork, mixWork, lineWork, lineFilters, outputWork, outputFilters};

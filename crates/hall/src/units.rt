@@ -10,7 +10,8 @@ ghost use Rattle.unit.specs.Hall.{ofState};
 ghost use Rattle.unit.specs.Model.{wall};
 ghost use Rattle.judges.specs.Judges.{judgedFresh, judgedReset, judgedTail, judgedApply};
 ghost use Rattle.frame.specs.Settle.{fallen};
-ghost use Rattle.reverb.specs.Whole.{outcome, freshUnit, freshStore, resetUnit, resetStore, applyFrame, applyCount, tailFrame, wholeOutcome, wholeStore, wholeWork, wholeOutput};
+ghost use Rattle.silence.specs.Silence.{outcome, freshUnit, freshStore, resetUnit, resetStore};
+ghost use Rattle.reverb.specs.Whole.{applyFrame, applyCount, tailFrame, wholeOutcome, wholeStore, wholeWork, wholeOutput};
 ghost use Rattle.hall.specs.Face.{faced, times};
 
 // A unit in which nothing has sounded yet, and its store cleared.
@@ -19,7 +20,7 @@ pub extern "C" fn hall_fresh(rate: u32, frame: usize, store: &mut [f32]) -> Hall
     ensures { λ r. ⌜ r ≡ faced (outcome (judgedFresh wall rate frame (length (now (store .entry)))) (freshUnit wall rate frame (length (now (store .entry)))) TailComplete) ⌝ }
     ensures { λ _. ⌜ now (store .exit) ≡ freshStore wall rate frame (now (store .entry)) ⌝ }
 {
-    faced(reverb::fresh(rate, frame, store))
+    faced(silence::fresh(rate, frame, store))
 }
 
 // Silences the unit: its store is cleared and no tail is left. Cursors and filters stay.
@@ -28,7 +29,7 @@ pub extern "C" fn hall_reset(s: State, store: &mut [f32]) -> HallAnswer
     ensures { λ r. ⌜ r ≡ faced (outcome (judgedReset wall (ofState s) (length (now (store .entry)))) (resetUnit wall (ofState s) (length (now (store .entry)))) TailComplete) ⌝ }
     ensures { λ _. ⌜ now (store .exit) ≡ resetStore wall (ofState s) (now (store .entry)) ⌝ }
 {
-    faced(reverb::reset(s, store))
+    faced(silence::reset(s, store))
 }
 
 // A frame of input: the lines sound through filters of the given coefficients, the input is added to

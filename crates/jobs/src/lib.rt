@@ -6,11 +6,11 @@ mod steps;
 use crate::steps::marked;
 use crate::steps::mix_rows;
 use reads::read_line;
-use reverb::Outcome;
-use reverb::quiet;
 use rows::make_line;
 use rows::make_output;
 use samples::is_accepted;
+use silence::Outcome;
+use silence::quiet;
 use turns::judge_line;
 use turns::judge_mix;
 use turns::judge_output;
@@ -24,7 +24,7 @@ ghost use Rattle.unit.specs.Hall.{ofState};
 ghost use Rattle.unit.specs.Model.{wall};
 ghost use Rattle.turns.specs.Marks.{mixMark, lineMark, outputMark};
 ghost use Rattle.turns.specs.Turns.{judgedRead, judgedMix, judgedLine, judgedOutput};
-ghost use Rattle.reverb.specs.Whole.{outcome};
+ghost use Rattle.silence.specs.Silence.{outcome};
 ghost use Rattle.jobs.specs.Steps.{markedUnit, readWork, mixWork, lineWork, lineFilters, outputWork, outputFilters};
 
 // Reads a frame of a line.

@@ -9,10 +9,10 @@ use crate::begin::opened;
 use bands::Times;
 use bands::tail_count;
 use filters::filters_of;
-use reverb::Outcome;
-use reverb::fallen;
-use reverb::quiet;
 use samples::is_accepted;
+use silence::Outcome;
+use silence::fallen;
+use silence::quiet;
 use turns::judge_open_apply;
 use turns::judge_open_tail;
 use unit::State;
@@ -24,7 +24,7 @@ ghost use Rattle.audio_buffer.specs.declared.AudioEffectState.the-variants.{Tai
 ghost use Rattle.unit.specs.Hall.{ofState};
 ghost use Rattle.unit.specs.Model.{wall};
 ghost use Rattle.turns.specs.Turns.{judgedOpenApply, judgedOpenTail};
-ghost use Rattle.reverb.specs.Whole.{outcome};
+ghost use Rattle.silence.specs.Silence.{outcome};
 ghost use Rattle.opening.specs.Play as Play;
 ghost use Rattle.opening.specs.Play.{opened, openWork};
 

@@ -28,8 +28,9 @@ use Rattle.frame.specs.Settle.{frameFinite, nineOf, settled, settledIn}
 use Rattle.frame.specs.Steps.{copied}
 use Rattle.lines.specs.declared.Stepped.{Stepped}
 use Rattle.lines.specs.Steps.{ended, endedStore, endedWork, endedOutput, stepped, steppedStore, steppedOutput}
-use Rattle.reverb.specs.declared.Outcome.{Outcome}
-use Rattle.reverb.specs.Whole.{movedOn, after, outcome, wholeAnswer, wholeOutcome, wholeUnit, wholeStore, wholeWork, wholeOutput}
+use Rattle.silence.specs.declared.Outcome.{Outcome}
+use Rattle.silence.specs.Silence.{outcome}
+use Rattle.reverb.specs.Whole.{movedOn, after, wholeAnswer, wholeOutcome, wholeUnit, wholeStore, wholeWork, wholeOutput}
 
 -- what is left of a unit u by a frame r that nothing else refuses
 abbrev pub Played : Hall → Frame → ℤ → Outcome → List Float → List Float → List Float → List Float → List Float → List Float → Type 0

@@ -1,5 +1,4 @@
--- The whole calls: what each answers, and what it leaves of the state, the store, the work memory and the output.
-use Prim.Native.Nat.{ℕ}
+-- The whole frames: what each answers, and what it leaves of the state, the store, the work memory and the output.
 use mathlib.Core.Bool.{true, false}
 use mathlib.Core.List.{List, []}
 use lib.Ieee.{Float}
@@ -8,52 +7,20 @@ use lib.ListN.{length, replicate}
 use Rattle.samples.specs.declared.Answer.{Answer}
 use Rattle.samples.specs.Answers.{accept, orElse}
 use Rattle.samples.specs.Binary32.{+0}
-use Rattle.audio_buffer.specs.declared.AudioEffectState.{AudioEffectState}
 use Rattle.audio_buffer.specs.declared.AudioEffectState.the-variants.{TailComplete}
 use Rattle.audio_buffer.specs.Verdict.{verdictOf}
 use Rattle.delay.specs.declared.Cursors.{Cursors}
 use Rattle.iir.specs.declared.Filter.{Filter}
 use Rattle.bands.specs.declared.Times.{Times}
 use Rattle.bands.specs.Tail.{tailCount}
-use Rattle.unit.specs.Hall.{Hall, toState}
+use Rattle.unit.specs.Hall.{Hall}
 use Rattle.unit.specs.Model.{Model}
 use Rattle.unit.specs.Sizes.{lineLengths, filtersLen}
-use Rattle.unit.specs.Fresh.{freshHall}
-use Rattle.judges.specs.Judges.{judgedFresh, judgedReset}
 use Rattle.frame.specs.Lines.{filtersOf}
 use Rattle.frame.specs.Frame.{Frame, newFilters, frameOf}
 use Rattle.frame.specs.Settle.{nineOf, settled, allMoved}
-use Rattle.reverb.specs.declared.Outcome.{Outcome}
-
--- "Fresh takes rate, F and store: store all +0 ..; refused, it gives such a state with rate 8,000 and F 4."
-abbrev pub freshUnit : Model → ℕ → ℕ → ℕ → Hall
-freshUnit m rate frame store = accept (judgedFresh m rate frame store) (freshHall m rate frame) (freshHall m 8000 4)
-
-abbrev pub freshStore : Model → ℕ → ℕ → List Float → List Float
-freshStore m rate frame store = accept (judgedFresh m rate frame (length store)) (replicate (length store) +0) store
-
--- the unit with another count
-abbrev pub counted : Hall → ℤ → Hall
-counted u count = record {
-  rate = u .rate;
-  frame = u .frame;
-  lines = u .lines;
-  passes = u .passes;
-  count = count;
-  filters = u .filters;
-  busy = u .busy;
-  tail = u .tail;
-  marks = u .marks;
-  next = u .next;
-  before = u .before;
-}
-
--- "Reset: all rings +0, count 0; cursors and filters stay as they are."
-abbrev pub resetUnit : Model → Hall → ℕ → Hall
-resetUnit m u store = accept (judgedReset m u store) (counted u (pos 0)) u
-
-abbrev pub resetStore : Model → Hall → List Float → List Float
-resetStore m u store = accept (judgedReset m u (length store)) (replicate (length store) +0) store
+use Rattle.silence.specs.declared.Outcome.{Outcome}
+use Rattle.silence.specs.Silence.{outcome}
 
 -- the unit with other cursors, other filters and another count
 abbrev pub movedOn : Hall → List Cursors → List Cursors → List Filter → ℤ → Hall
@@ -103,10 +70,6 @@ wholeOutput due r output = accept (wholeAnswer due r) (r .output .out) output
 -- "An accepted whole call or close leaves work all +0 too", and so does a 9
 unfoldable pub wholeWork : Answer → List Float → List Float
 wholeWork due work = accept due (replicate (length work) +0) work
-
--- what a call gives back
-abbrev pub outcome : Answer → Hall → AudioEffectState → Outcome
-outcome a u verdict = record { answer = a; verdict = verdict; state = toState u }
 
 -- "Verdict: TailRemaining exactly if above 0"; "A refused call .. gives .. for a verdict TailComplete."
 abbrev pub wholeOutcome : Model → Hall → Answer → Frame → ℤ → Outcome

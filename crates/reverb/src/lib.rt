@@ -1,70 +1,27 @@
-// The unit's calls: each takes the state by value and gives it back.
+// The unit's whole frames, apply and tail: each takes the state by value and gives it back.
 //
 // Its contracts cite `specs/`: what each call answers, and what it leaves of the state and of the
 // memory lent.
 mod units;
 
 use crate::units::whole_frame;
-use audio_buffer::AudioEffectState;
 use bands::Times;
 use bands::tail_count;
 use filters::filters_of;
 use judges::judge_apply;
-use judges::judge_fresh;
-use judges::judge_reset;
 use judges::judge_tail;
-use samples::Answer;
-use samples::Frames;
-use samples::clear;
 use samples::is_accepted;
+use silence::Outcome;
+use silence::fallen;
+use silence::quiet;
 use unit::State;
-use unit::fresh_state;
-pub use units::fallen;
-pub use units::quiet;
 ghost use mathlib.Core.Path.{_≡_};
 ghost use lib.ListN.{length};
 ghost use Rattle.unit.specs.Hall.{ofState};
 ghost use Rattle.unit.specs.Model.{wall};
-ghost use Rattle.judges.specs.Judges.{judgedFresh, judgedReset, judgedTail, judgedApply};
+ghost use Rattle.judges.specs.Judges.{judgedTail, judgedApply};
 ghost use Rattle.frame.specs.Settle.{fallen};
-ghost use Rattle.reverb.specs.Whole.{outcome, freshUnit, freshStore, resetUnit, resetStore, applyFrame, applyCount, tailFrame, wholeOutcome, wholeStore, wholeWork, wholeOutput};
-
-// What a call of the unit gives back: its answer, the verdict on the tail, and the state.
-pub struct Outcome {
-    pub answer: Answer,
-    pub verdict: AudioEffectState,
-    pub state: State,
-}
-
-// A unit in which nothing has sounded yet, and its store cleared.
-pub fn fresh(rate: u32, frame: usize, store: &mut [f32]) -> Outcome
-    ensures { λ r. ⌜ r ≡ outcome (judgedFresh wall rate frame (length (now (store .entry)))) (freshUnit wall rate frame (length (now (store .entry)))) AudioEffectState.TailComplete ⌝ }
-    ensures { λ _. ⌜ now (store .exit) ≡ freshStore wall rate frame (now (store .entry)) ⌝ }
-{
-    let answer = judge_fresh(rate, frame, store.len());
-    if !is_accepted(answer) {
-        let state = fresh_state(8000, 4);
-        return quiet(answer, state);
-    }
-    clear(store);
-    quiet(answer, fresh_state(rate, frame))
-}
-
-// Silences the unit: its store is cleared and no tail is left. Cursors and filters stay.
-pub fn reset(s: State, store: &mut [f32]) -> Outcome
-    ensures { λ r. ⌜ r ≡ outcome (judgedReset wall (ofState s) (length (now (store .entry)))) (resetUnit wall (ofState s) (length (now (store .entry)))) AudioEffectState.TailComplete ⌝ }
-    ensures { λ _. ⌜ now (store .exit) ≡ resetStore wall (ofState s) (now (store .entry)) ⌝ }
-{
-    let answer = judge_reset(s, store.len());
-    if !is_accepted(answer) {
-        return quiet(answer, s);
-    }
-    clear(store);
-    let none = Frames(0);
-    let mut t = s;
-    t.count = none;
-    quiet(answer, t)
-}
+ghost use Rattle.reverb.specs.Whole.{applyFrame, applyCount, tailFrame, wholeOutcome, wholeStore, wholeWork, wholeOutput};
 
 // A frame of input: the lines sound through filters of the given coefficients, the input is added to
 // each, and the tail that is to come is counted by the times.

@@ -1,12 +1,12 @@
-// A whole frame of a unit, what it leaves of the state, and the outcome of a call.
-use crate::Outcome;
-use audio_buffer::AudioEffectState;
+// A whole frame of a unit, and what it leaves of the state.
 use audio_buffer::verdict;
 use iir::Filter;
 use lines::Stepped;
 use lines::run_frame;
 use samples::Answer;
 use samples::Frames;
+use silence::Outcome;
+use silence::quiet;
 use unit::State;
 ghost use mathlib.Core.Path.{_≡_};
 ghost use mathlib.Core.Bool.{true, cond};
@@ -19,19 +19,8 @@ ghost use Rattle.unit.specs.Hall.{ofState, toState};
 ghost use Rattle.unit.specs.Model.{wall};
 ghost use Rattle.unit.specs.Room.{roomOk};
 ghost use Rattle.frame.specs.Frame.{frameOf};
-ghost use Rattle.frame.specs.Settle.{fallen};
-ghost use Rattle.reverb.specs.Whole.{movedOn, outcome, wholeOutcome, wholeStore, wholeOutput};
-
-// The outcome of a call that leaves no tail to wait for.
-pub fn quiet(answer: Answer, state: State) -> Outcome
-    ensures { λ r. ⌜ r ≡ outcome answer (ofState state) TailComplete ⌝ }
-{
-    Outcome {
-        answer,
-        verdict: AudioEffectState::TailComplete,
-        state,
-    }
-}
+ghost use Rattle.silence.specs.Silence.{outcome};
+ghost use Rattle.reverb.specs.Whole.{movedOn, wholeOutcome, wholeStore, wholeOutput};
 
 // The unit after an accepted frame: its rings moved on, and the frame's filters and count.
 pub(crate) fn moved_on(s: State, frame: Stepped, count: Frames) -> State
@@ -84,16 +73,4 @@ pub(crate) fn whole_frame(
     let qs = s.passes;
     let r = run_frame(f, tail, cs, qs, fs, store, work, output);
     conclude(s, r, count)
-}
-
-// One frame less to come, down to the least count there is.
-pub fn fallen(count: Frames) -> Frames
-    ensures { λ r. ⌜ r ≡ record { 0 = fallen (count .0) } ⌝ }
-{
-    let n = count.0;
-    if n == -2147483648 {
-        count
-    } else {
-        Frames(n - 1)
-    }
 }

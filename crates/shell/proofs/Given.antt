@@ -10,7 +10,7 @@ use Rattle.unit.specs.Hall.{Hall}
 use Rattle.unit.specs.Model.{wall}
 use Rattle.judges.specs.Judges.{judgedApply, judgedTail}
 use Rattle.frame.specs.Frame.{Frame}
-use Rattle.reverb.specs.declared.Outcome.{Outcome}
+use Rattle.silence.specs.declared.Outcome.{Outcome}
 use Rattle.reverb.specs.Whole.{applyFrame, wholeOutcome, wholeStore, wholeWork, wholeOutput}
 use Rattle.shell.specs.Settings.{storeFloats, workFloats, times, coefficients}
 use Rattle.shell.specs.Frames.{heard, inputDue, inputFrame, tailDue}

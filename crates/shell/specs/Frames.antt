@@ -12,7 +12,7 @@ use Rattle.unit.specs.Model.{wall}
 use Rattle.judges.specs.Judges.{judgedApply, judgedTail}
 use Rattle.frame.specs.Frame.{Frame}
 use Rattle.frame.specs.Settle.{fallen}
-use Rattle.reverb.specs.declared.Outcome.{Outcome}
+use Rattle.silence.specs.declared.Outcome.{Outcome}
 use Rattle.reverb.specs.Whole.{applyFrame, applyCount, tailFrame, wholeAnswer, wholeOutcome, wholeStore, wholeWork}
 use Rattle.shell.specs.Settings.{frame, storeFloats, workFloats, times, coefficients}
 

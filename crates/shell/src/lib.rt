@@ -4,9 +4,9 @@
 // Its contracts cite `specs/`: what the program is set to, and what a frame of input and a frame of
 // the tail give, leave and write.
 use bands::Times;
-use reverb::Outcome;
 use samples::Frames;
 use samples::and;
+use silence::Outcome;
 use unit::State;
 ghost use mathlib.Core.Path.{_≡_};
 ghost use mathlib.Core.Bool.{cond, _&&_};
@@ -19,7 +19,7 @@ ghost use Rattle.samples.specs.declared.Answer.the-variants.{Accepted};
 ghost use Rattle.unit.specs.Hall.{ofState};
 ghost use Rattle.unit.specs.Model.{wall};
 ghost use Rattle.unit.specs.Fresh.{freshHall};
-ghost use Rattle.reverb.specs.Whole.{outcome};
+ghost use Rattle.silence.specs.Silence.{outcome};
 ghost use Rattle.audio_buffer.specs.declared.AudioEffectState.the-variants.{TailComplete};
 ghost use Rattle.shell.specs.Settings.{frame, rate, storeFloats, times, coefficients};
 ghost use Rattle.shell.specs.Frames.{inputOutcome, inputStore, inputWork, inputSaid, tailOutcome, tailStore, tailWork, tailSaid, calls};
@@ -64,7 +64,7 @@ pub fn start(store: &mut [f32; STORE]) -> Outcome
     ensures { λ r. ⌜ r ≡ outcome Accepted (freshHall wall rate frame) TailComplete ⌝ }
     ensures { λ _. ⌜ now (store .exit) ≡ replicate storeFloats +0 ⌝ }
 {
-    reverb::fresh(48000, 128, store)
+    silence::fresh(48000, 128, store)
 }
 
 // A frame of input. The row of the output begins as +0, and a refused call leaves it.

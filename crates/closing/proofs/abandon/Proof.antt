@@ -7,8 +7,8 @@ use Rattle.audio_buffer.specs.declared.AudioEffectState.the-variants.{TailCompl
 use Rattle.unit.specs.Hall.{ofState}
 use Rattle.unit.specs.Model.{wall}
 use Rattle.turns.specs.Turns.{judgedAbandon}
-use Rattle.reverb.specs.Whole.{outcome}
-use Rattle.reverb.proofs.Outcomes.{old-left, new-left}
+use Rattle.silence.specs.Silence.{outcome}
+use Rattle.silence.proofs.Outcomes.{old-left, new-left}
 use Rattle.closing.specs.Close.{shut, cleared}
 use Rattle.closing.proofs.abandon.Statement.{statement}
 use Rattle.closing.proofs.abandon.Tie as tie

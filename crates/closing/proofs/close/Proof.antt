@@ -11,7 +11,7 @@ use Rattle.turns.specs.Marks.{allDone}
 use Rattle.turns.specs.Turns.{judgedClose}
 use Rattle.rows.specs.Rows.{rowsOf}
 use Rattle.reverb.proofs.Fits.{due-of, room-of}
-use Rattle.reverb.proofs.Outcomes.{refused, let-by}
+use Rattle.silence.proofs.Outcomes.{refused, let-by}
 use Rattle.closing.proofs.Closed.{all-as-was, as-ended}
 use Rattle.closing.proofs.close.Statement.{statement}
 use Rattle.closing.proofs.close.Tie as tie

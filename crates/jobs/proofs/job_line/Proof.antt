@@ -19,9 +19,9 @@ use Rattle.judges.specs.Judges.{workOk}
 use Rattle.turns.specs.Marks.{mixMark, lineMark, marked}
 use Rattle.turns.specs.Turns.{judgedLine}
 use Rattle.rows.specs.Fits.{workFor}
-use Rattle.reverb.specs.Whole.{outcome}
+use Rattle.silence.specs.Silence.{outcome}
 use Rattle.reverb.proofs.Fits.{due-of}
-use Rattle.reverb.proofs.Outcomes.{old-left, new-left, let-by}
+use Rattle.silence.proofs.Outcomes.{old-left, new-left, let-by}
 use Rattle.jobs.specs.Steps.{markedUnit, lineWork, lineFilters}
 use Rattle.jobs.proofs.Laid.{work-for, line-of, line-work, line-ends}
 use Rattle.jobs.proofs.job_line.Statement.{statement}
@@ -29,7 +29,7 @@ use Rattle.jobs.proofs.job_line.Tie as tie
 use Rattle.jobs.proofs.job_line.Reads as reads
 use Rattle.jobs.proofs.job_line.Lts as lts
 use Rattle.jobs.proofs.steps.marked.Reads as marked-reads
-use Rattle.reverb.proofs.quiet.Reads as quiet-reads
+use Rattle.silence.proofs.quiet.Reads as quiet-reads
 use Rattle.rows.proofs.make_line.Reads as make-line-reads
 use Rattle.samples.proofs.is_accepted.Reads as is-accepted-reads
 use Rattle.turns.proofs.judge_line.Reads as judge-line-reads

@@ -12,9 +12,9 @@ use Rattle.judges.specs.Judges.{workOk}
 use Rattle.turns.specs.Marks.{mixMark, marked, allRead}
 use Rattle.turns.specs.Turns.{judgedMix}
 use Rattle.rows.proofs.RowsOf.{work-fits}
-use Rattle.reverb.specs.Whole.{outcome}
+use Rattle.silence.specs.Silence.{outcome}
 use Rattle.reverb.proofs.Fits.{due-of}
-use Rattle.reverb.proofs.Outcomes.{old-left, new-left, let-by}
+use Rattle.silence.proofs.Outcomes.{old-left, new-left, let-by}
 use Rattle.jobs.specs.Steps.{markedUnit, mixWork}
 use Rattle.jobs.proofs.Laid.{work-for}
 use Rattle.jobs.proofs.job_mix.Statement.{statement}

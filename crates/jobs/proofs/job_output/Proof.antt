@@ -13,9 +13,9 @@ use Rattle.unit.specs.Model.{wall}
 use Rattle.judges.specs.Judges.{workOk}
 use Rattle.turns.specs.Marks.{outputMark, marked, allRead}
 use Rattle.turns.specs.Turns.{judgedOutput}
-use Rattle.reverb.specs.Whole.{outcome}
+use Rattle.silence.specs.Silence.{outcome}
 use Rattle.reverb.proofs.Fits.{due-of}
-use Rattle.reverb.proofs.Outcomes.{old-left, new-left, let-by}
+use Rattle.silence.proofs.Outcomes.{old-left, new-left, let-by}
 use Rattle.jobs.specs.Steps.{markedUnit, outputWork, outputFilters}
 use Rattle.jobs.proofs.Laid.{work-for, output-work, output-ends}
 use Rattle.jobs.proofs.job_output.Statement.{statement}

@@ -11,8 +11,8 @@ use Rattle.bands.specs.declared.Counted.{Counted}
 use Rattle.unit.specs.Hall.{ofState}
 use Rattle.unit.specs.Model.{wall}
 use Rattle.judges.specs.Judges.{storeOk, workOk}
-use Rattle.reverb.specs.Whole.{outcome}
-use Rattle.reverb.proofs.Outcomes.{old-left, new-left, let-by}
+use Rattle.silence.specs.Silence.{outcome}
+use Rattle.silence.proofs.Outcomes.{old-left, new-left, let-by}
 use Rattle.reverb.proofs.WholeParts.{filters-given}
 use Rattle.turns.specs.Turns.{judgedOpenApply}
 use Rattle.reverb.proofs.Fits.{given-of}

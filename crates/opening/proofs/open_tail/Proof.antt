@@ -12,9 +12,9 @@ use Rattle.audio_buffer.specs.declared.AudioEffectState.the-variants.{TailCompl
 use Rattle.unit.specs.Hall.{ofState}
 use Rattle.unit.specs.Model.{wall}
 use Rattle.judges.specs.Judges.{storeOk, workOk}
-use Rattle.reverb.specs.Whole.{outcome}
+use Rattle.silence.specs.Silence.{outcome}
 use Rattle.reverb.proofs.Fits.{due-of}
-use Rattle.reverb.proofs.Outcomes.{old-left, new-left, let-by}
+use Rattle.silence.proofs.Outcomes.{old-left, new-left, let-by}
 use Rattle.turns.specs.Turns.{judgedOpenTail}
 use Rattle.opening.specs.Held.{holding}
 use Rattle.opening.specs.Play as Play

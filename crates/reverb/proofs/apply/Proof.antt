@@ -12,7 +12,7 @@ use Rattle.unit.specs.Model.{wall}
 use Rattle.judges.specs.Judges.{judgedApply}
 use Rattle.reverb.specs.Whole.{applyFrame, applyCount}
 use Rattle.reverb.proofs.Fits.{ApplyFits, apply-fits}
-use Rattle.reverb.proofs.Outcomes.{refused, let-by}
+use Rattle.silence.proofs.Outcomes.{refused, let-by}
 use Rattle.reverb.proofs.WholeParts.{begun, filters-given, one-frame, all-as-was, as-frame}
 use Rattle.samples.proofs.Laws.{is-accepted}
 use Rattle.reverb.proofs.apply.Statement.{statement}
@@ -21,7 +21,7 @@ use Rattle.reverb.proofs.apply.Reads as reads
 use Rattle.reverb.proofs.apply.Lts as lts
 use Rattle.judges.proofs.judge_apply.Reads as judge-apply-reads
 use Rattle.samples.proofs.is_accepted.Reads as is-accepted-reads
-use Rattle.reverb.proofs.units.quiet.Reads as quiet-reads
+use Rattle.silence.proofs.quiet.Reads as quiet-reads
 use Rattle.bands.proofs.tail_count.Reads as tail-count-reads
 use Rattle.filters.proofs.filters_of.Reads as filters-of-reads
 use Rattle.frame.proofs.copy.Reads as copy-reads

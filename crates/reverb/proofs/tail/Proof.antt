@@ -11,7 +11,7 @@ use Rattle.judges.specs.Judges.{judgedTail, lentOk}
 use Rattle.frame.specs.Settle.{fallen}
 use Rattle.reverb.specs.Whole.{tailFrame}
 use Rattle.reverb.proofs.Fits.{due-of, room-of}
-use Rattle.reverb.proofs.Outcomes.{refused, let-by}
+use Rattle.silence.proofs.Outcomes.{refused, let-by}
 use Rattle.reverb.proofs.WholeParts.{no-input, all-as-was, as-frame}
 use Rattle.samples.proofs.Laws.{is-accepted}
 use Rattle.reverb.proofs.tail.Statement.{statement}

@@ -5,8 +5,8 @@ use Rattle.samples.specs.declared.Answer.the-variants.{Accepted, NotFinite}
 use Rattle.audio_buffer.specs.declared.AudioEffectState.the-variants.{TailComplete}
 use Rattle.unit.specs.declared.State.{State}
 use Rattle.unit.specs.Hall.{ofState}
-use Rattle.reverb.specs.Whole.{outcome}
-use Rattle.reverb.proofs.Outcomes.{when, when-not}
+use Rattle.silence.specs.Silence.{outcome}
+use Rattle.silence.proofs.Outcomes.{when, when-not}
 use Rattle.closing.proofs.ends.concluded.Statement.{statement}
 use Rattle.closing.proofs.ends.concluded.Tie as tie
 

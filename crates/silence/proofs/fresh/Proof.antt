@@ -1,4 +1,4 @@
--- `reverb::fresh` meets its contract. Assumes nothing.
+-- `silence::fresh` meets its contract. Assumes nothing.
 use borrow.Author.Needs.{needs}
 use mathlib.Core.Path.{ap, _∙_}
 use lib.ListN.{length, replicate}
@@ -9,10 +9,10 @@ use Rattle.unit.specs.Hall.{ofState}
 use Rattle.unit.specs.Model.{wall}
 use Rattle.unit.specs.Fresh.{freshHall}
 use Rattle.judges.specs.Judges.{judgedFresh}
-use Rattle.reverb.specs.Whole.{outcome}
-use Rattle.reverb.proofs.Outcomes.{old-left, new-left}
-use Rattle.reverb.proofs.fresh.Statement.{statement}
-use Rattle.reverb.proofs.fresh.Tie as tie
+use Rattle.silence.specs.Silence.{outcome}
+use Rattle.silence.proofs.Outcomes.{old-left, new-left}
+use Rattle.silence.proofs.fresh.Statement.{statement}
+use Rattle.silence.proofs.fresh.Tie as tie
 
 judge-fresh-requires : tie.Need-judge-fresh-requires
 judge-fresh-requires c κs = search needs

@@ -1,4 +1,4 @@
--- `reverb::units::fallen` meets its contract: of the numbers that fit 32 bits with a sign, the least alone has no other below it.
+-- `silence::fallen` meets its contract: of the numbers that fit 32 bits with a sign, the least alone has no other below it.
 -- Assumes nothing.
 use native.Mathlib.Omega.{arith}
 use mathlib.Core.Path.{_≡_, refl, ap, _∙_}
@@ -12,8 +12,8 @@ use mir.ValLaws.{toZ-ofZ}
 use borrow.Author.Needs.{sfits-of}
 use Rattle.samples.proofs.Turns.{lt-or-ge}
 use Rattle.frame.specs.Settle.{fallen}
-use Rattle.reverb.proofs.units.fallen.Statement.{statement}
-use Rattle.reverb.proofs.units.fallen.Tie as tie
+use Rattle.silence.proofs.fallen.Statement.{statement}
+use Rattle.silence.proofs.fallen.Tie as tie
 
 at-least : (z : ℤ) → mag z < 2147483648 → ofZ w32 z ≡ 2147483648 → z ≡ fallen z
 at-least (pos n) h e = absurd (omega (arith, e))

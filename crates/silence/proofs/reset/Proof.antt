@@ -1,4 +1,4 @@
--- `reverb::reset` meets its contract. Assumes nothing.
+-- `silence::reset` meets its contract. Assumes nothing.
 use borrow.Author.Needs.{needs}
 use mathlib.Core.Path.{_∙_}
 use lib.IntN.{pos}
@@ -9,10 +9,10 @@ use Rattle.audio_buffer.specs.declared.AudioEffectState.the-variants.{TailCompl
 use Rattle.unit.specs.Hall.{ofState}
 use Rattle.unit.specs.Model.{wall}
 use Rattle.judges.specs.Judges.{judgedReset}
-use Rattle.reverb.specs.Whole.{outcome, counted}
-use Rattle.reverb.proofs.Outcomes.{old-left, new-left}
-use Rattle.reverb.proofs.reset.Statement.{statement}
-use Rattle.reverb.proofs.reset.Tie as tie
+use Rattle.silence.specs.Silence.{outcome, counted}
+use Rattle.silence.proofs.Outcomes.{old-left, new-left}
+use Rattle.silence.proofs.reset.Statement.{statement}
+use Rattle.silence.proofs.reset.Tie as tie
 
 judge-reset-requires : tie.Need-judge-reset-requires
 judge-reset-requires c κs = search needs
