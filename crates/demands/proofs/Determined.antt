@@ -55,10 +55,12 @@ use Rattle.iir.proofs.is_blank.Kinds as iir-is-blank-kinds
 use Rattle.iir.proofs.is_blank.Reads as iir-is-blank-reads
 use Rattle.hadamard.proofs.minus.Kinds as hadamard-minus-kinds
 use Rattle.hadamard.proofs.minus.Reads as hadamard-minus-reads
+use Rattle.hadamard.proofs.plus_minus.Kinds as hadamard-plus-minus-kinds
+use Rattle.hadamard.proofs.plus_minus.Reads as hadamard-plus-minus-reads
 use Rattle.hadamard.proofs.mix_sample.Kinds as hadamard-mix-sample-kinds
 use Rattle.hadamard.proofs.mix_sample.Reads as hadamard-mix-sample-reads
-use Rattle.hadamard.proofs.mix_rows.Kinds as hadamard-mix-rows-kinds
-use Rattle.hadamard.proofs.mix_rows.Reads as hadamard-mix-rows-reads
+use Rattle.mixer.proofs.mix_rows.Kinds as mixer-mix-rows-kinds
+use Rattle.mixer.proofs.mix_rows.Reads as mixer-mix-rows-reads
 use Rattle.bands.proofs.time_ok.Kinds as bands-time-ok-kinds
 use Rattle.bands.proofs.time_ok.Reads as bands-time-ok-reads
 use Rattle.bands.proofs.times_ok.Kinds as bands-times-ok-kinds
@@ -309,17 +311,20 @@ iir-is-blank κs a x y s t p q = p ∙ sym (q)
 pub hadamard-minus : OneResult 0 hadamard-minus-kinds.ps hadamard-minus-kinds.r hadamard-minus-reads.Post
 hadamard-minus κs a x y s t p q = p ∙ sym (q)
 
+pub hadamard-plus-minus : OneResult 0 hadamard-plus-minus-kinds.ps hadamard-plus-minus-kinds.r hadamard-plus-minus-reads.Post
+hadamard-plus-minus κs a x y s t p q = p ∙ sym (q)
+
 pub hadamard-mix-sample : OneResult 2 hadamard-mix-sample-kinds.ps hadamard-mix-sample-kinds.r hadamard-mix-sample-reads.Post
 hadamard-mix-sample κs a x y s t p q = p .0 ∙ sym (q .0)
 
 pub hadamard-mix-sample-y : OneExit 2 hadamard-mix-sample-kinds.ps hadamard-mix-sample-kinds.r hadamard-mix-sample-reads.Post (λ κs s. s .1 .0 .now)
 hadamard-mix-sample-y κs a x y s t p q = (rw (p .0) at (p .1)) ∙ sym (rw (q .0) at (q .1))
 
-pub hadamard-mix-rows : OneResult 1 hadamard-mix-rows-kinds.ps hadamard-mix-rows-kinds.r hadamard-mix-rows-reads.Post
-hadamard-mix-rows κs a x y s t p q = p .0 ∙ sym (q .0)
+pub mixer-mix-rows : OneResult 1 mixer-mix-rows-kinds.ps mixer-mix-rows-kinds.r mixer-mix-rows-reads.Post
+mixer-mix-rows κs a x y s t p q = p .0 ∙ sym (q .0)
 
-pub hadamard-mix-rows-rows : OneExit 1 hadamard-mix-rows-kinds.ps hadamard-mix-rows-kinds.r hadamard-mix-rows-reads.Post (λ κs s. s .1 .1 .0 .now)
-hadamard-mix-rows-rows κs a x y s t p q = (rw (p .0) at (p .1)) ∙ sym (rw (q .0) at (q .1))
+pub mixer-mix-rows-rows : OneExit 1 mixer-mix-rows-kinds.ps mixer-mix-rows-kinds.r mixer-mix-rows-reads.Post (λ κs s. s .1 .1 .0 .now)
+mixer-mix-rows-rows κs a x y s t p q = (rw (p .0) at (p .1)) ∙ sym (rw (q .0) at (q .1))
 
 -- ---- bands
 

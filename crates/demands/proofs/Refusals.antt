@@ -33,8 +33,8 @@ use Rattle.delay.proofs.put4.Kinds as delay-put4-kinds
 use Rattle.delay.proofs.put4.Reads as delay-put4-reads
 use Rattle.hadamard.proofs.mix_sample.Kinds as hadamard-mix-sample-kinds
 use Rattle.hadamard.proofs.mix_sample.Reads as hadamard-mix-sample-reads
-use Rattle.hadamard.proofs.mix_rows.Kinds as hadamard-mix-rows-kinds
-use Rattle.hadamard.proofs.mix_rows.Reads as hadamard-mix-rows-reads
+use Rattle.mixer.proofs.mix_rows.Kinds as mixer-mix-rows-kinds
+use Rattle.mixer.proofs.mix_rows.Reads as mixer-mix-rows-reads
 use Rattle.primes.proofs.delay_values.Kinds as primes-delay-values-kinds
 use Rattle.primes.proofs.delay_values.Reads as primes-delay-values-reads
 use Rattle.audio_buffer.proofs.write_interleaved.Kinds as audio-buffer-write-interleaved-kinds
@@ -101,8 +101,8 @@ pub hadamard-mix-sample-y : Unchanged 2 hadamard-mix-sample-kinds.ps hadamard-mi
 hadamard-mix-sample-y κs a x s p h =
     kept (x) (x) (mixed 16 quarter (a .0 .now)) (a .1 .0 .now) (p .1) refl h
 
-pub hadamard-mix-rows-rows : Unchanged 1 hadamard-mix-rows-kinds.ps hadamard-mix-rows-kinds.r hadamard-mix-rows-reads.Post (λ κs x. x) (λ κs x s. s .1 .1 .0 .now) (λ κs a. a .1 .1 .0 .now)
-hadamard-mix-rows-rows κs a x s p h =
+pub mixer-mix-rows-rows : Unchanged 1 mixer-mix-rows-kinds.ps mixer-mix-rows-kinds.r mixer-mix-rows-reads.Post (λ κs x. x) (λ κs x s. s .1 .1 .0 .now) (λ κs a. a .1 .1 .0 .now)
+mixer-mix-rows-rows κs a x s p h =
     kept (x) (x) (rowsMixed (a .0) (a .1 .0) (a .1 .1 .0 .now)) (a .1 .1 .0 .now) (p .1) refl h
 
 -- ---- primes

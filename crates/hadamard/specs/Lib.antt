@@ -1,3 +1,2 @@
 pub mod Mix
 pub mod Rows
-pub mod Passes

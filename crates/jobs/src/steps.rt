@@ -26,5 +26,5 @@ pub(crate) fn mix_rows(f: usize, work: &mut [f32])
     ensures { λ _. ⌜ now (work .exit) ≡ mixLaid wall f (now (work .entry)) ⌝ }
 {
     let e = 33 * f;
-    hadamard::mix_rows(16, 0.25, &mut work[f..e]);
+    mixer::mix_rows(16, 0.25, &mut work[f..e]);
 }

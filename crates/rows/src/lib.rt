@@ -64,7 +64,7 @@ fn lines_in(
     ensures { λ _. ⌜ now (rows .exit) ≡ take f (now (rows .entry)) ++ (take (n * f) (drop f (now (rows .entry))) ++ linesIn n f factor tail fs (now (rows .entry)) .put) ⌝ }
 {
     let at = f + n * f;
-    hadamard::mix_rows(n, factor, &mut rows[f..]);
+    mixer::mix_rows(n, factor, &mut rows[f..]);
     let gs = band_lines(n, f, fs, &mut rows[at..]);
     add_unless(tail, n, f, rows);
     gs

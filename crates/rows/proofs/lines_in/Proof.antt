@@ -6,7 +6,7 @@ use Rattle.rows.proofs.lines_in.Statement.{statement}
 use Rattle.rows.proofs.lines_in.Tie as tie
 use Rattle.rows.proofs.lines_in.Reads as reads
 use Rattle.rows.proofs.lines_in.Lts as lts
-use Rattle.hadamard.proofs.mix_rows.Reads as mix-rows-reads
+use Rattle.mixer.proofs.mix_rows.Reads as mix-rows-reads
 use Rattle.rows.proofs.filters.band_lines.Reads as band-lines-reads
 use Rattle.rows.proofs.sums.add_unless.Reads as add-unless-reads
 
