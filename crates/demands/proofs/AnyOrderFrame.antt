@@ -17,11 +17,11 @@ use Rattle.iir.specs.declared.Filter.{Filter}
 use Rattle.iir.specs.Runs.{bandsOut, bandsEnd}
 use Rattle.iir.proofs.Laws.{bands-length}
 use Rattle.unit.specs.Sizes.{total}
+use Rattle.allpass.specs.Passes.{passEnd}
+use Rattle.allpass.proofs.Stages.{pass-rings}
 use Rattle.frame.specs.Lines.{noFilter, bandRows, three, threeOf, bandEnds, plus, addRows}
-use Rattle.frame.specs.Passes.{passEnd}
 use Rattle.frame.specs.Frame.{stretch, stageAt, ringsOf, lineRows, outputRow}
 use Rattle.frame.proofs.RowLaws.{byBands, peel, length-plus, length-bandRows}
-use Rattle.frame.proofs.Stages.{pass-rings}
 use Rattle.demands.proofs.AnyOrderRows.{getD-row}
 
 -- ---- rows of lines

@@ -129,8 +129,8 @@ use Rattle.unit.proofs.store_ok.Kinds as unit-store-ok-kinds
 use Rattle.unit.proofs.store_ok.Reads as unit-store-ok-reads
 use Rattle.unit.proofs.work_ok.Kinds as unit-work-ok-kinds
 use Rattle.unit.proofs.work_ok.Reads as unit-work-ok-reads
-use Rattle.frame.proofs.pass_stage.Kinds as frame-pass-stage-kinds
-use Rattle.frame.proofs.pass_stage.Reads as frame-pass-stage-reads
+use Rattle.allpass.proofs.pass_stage.Kinds as allpass-pass-stage-kinds
+use Rattle.allpass.proofs.pass_stage.Reads as allpass-pass-stage-reads
 use Rattle.frame.proofs.add_first.Kinds as frame-add-first-kinds
 use Rattle.frame.proofs.add_first.Reads as frame-add-first-reads
 use Rattle.frame.proofs.divide.Kinds as frame-divide-kinds
@@ -465,10 +465,12 @@ unit-lent-ok κs a x y s t p q = p ∙ sym (q)
 pub judges-or-else : OneResult 0 judges-or-else-kinds.ps judges-or-else-kinds.r judges-or-else-reads.Post
 judges-or-else κs a x y s t p q = p ∙ sym (q)
 
--- ---- frame
+-- ---- allpass
 
-pub frame-pass-stage-w : OneExit 1 frame-pass-stage-kinds.ps frame-pass-stage-kinds.r frame-pass-stage-reads.Post (λ κs s. s .0 .now)
-frame-pass-stage-w κs a x y s t p q = p ∙ sym (q)
+pub allpass-pass-stage-w : OneExit 1 allpass-pass-stage-kinds.ps allpass-pass-stage-kinds.r allpass-pass-stage-reads.Post (λ κs s. s .0 .now)
+allpass-pass-stage-w κs a x y s t p q = p ∙ sym (q)
+
+-- ---- frame
 
 pub frame-add-first-rows : OneExit 1 frame-add-first-kinds.ps frame-add-first-kinds.r frame-add-first-reads.Post (λ κs s. s .0 .now)
 frame-add-first-rows κs a x y s t p q = p ∙ sym (q)

@@ -12,10 +12,10 @@ use Rattle.hadamard.specs.Rows.{mixedRows}
 use Rattle.hadamard.proofs.Laws.{rows-length}
 use Rattle.iir.specs.declared.Filter.{Filter}
 use Rattle.iir.proofs.Laws.{run-length}
+use Rattle.allpass.proofs.Stages.{length-passOut}
 use Rattle.frame.specs.Lines.{bandRows, noFilter}
 use Rattle.frame.specs.Frame.{stageAt, lineRows, outputRow}
 use Rattle.frame.proofs.RowLaws.{length-bandRows, length-addRows}
-use Rattle.frame.proofs.Stages.{length-passOut}
 
 module _ (n f : ℕ) (k : Float) (fs : List Filter) (input reads : List Float) where
   bands-long : let mixed = mixedRows n f k reads in

@@ -1,5 +1,4 @@
 pub mod RowTurns
 pub mod RowLaws
-pub mod Stages
-pub mod ByFours
+pub mod Moved
 pub mod FrameLaws

@@ -13,8 +13,8 @@ use Rattle.iir.specs.Runs.{runOut, bandsEnd}
 use Rattle.unit.specs.Hall.{Hall}
 use Rattle.unit.specs.Model.{Model}
 use Rattle.unit.specs.Sizes.{lineLengths, total}
+use Rattle.allpass.specs.Passes.{Stage, passOut, passEnd}
 use Rattle.frame.specs.Lines.{noFilter, readRows, bandRows, bandEnds, addRows, sumRows, three, threeOf}
-use Rattle.frame.specs.Passes.{Stage, passOut, passEnd}
 
 -- a list cut into stretches of the lengths ls: stretch k
 unfoldable pub stretch : List ℕ → ℕ → List Float → List Float

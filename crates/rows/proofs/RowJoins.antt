@@ -22,13 +22,13 @@ use Rattle.delay.specs.Calls.{both}
 use Rattle.unit.specs.Sizes.{total}
 use Rattle.iir.specs.declared.Filter.{Filter}
 use Rattle.iir.specs.Runs.{bandsOut, bandsEnd}
+use Rattle.allpass.specs.Passes.{Stage, passOut, passEnd}
+use Rattle.allpass.specs.Stages.{staged}
+use Rattle.allpass.proofs.Stages.{length-passOut, pass-rings, staged-laid}
 use Rattle.frame.specs.Lines.{bandEnds, three, threeOf, addRows, sumRows}
 use Rattle.frame.specs.Frame.{stretch, stageAt, ringsOf, lineRows, outputRow}
-use Rattle.frame.specs.Passes.{Stage, passOut, passEnd}
-use Rattle.frame.specs.Stages.{staged}
 use Rattle.frame.specs.Steps.{divided}
 use Rattle.frame.proofs.RowLaws.{byBands, length-bandEnds}
-use Rattle.frame.proofs.Stages.{length-passOut, pass-rings, staged-laid}
 use Rattle.rows.proofs.Stretches.{to-end}
 
 -- what is lent of w, where it is p, of length a, and then q, and what comes back: of all before a, and of all from a on

@@ -9,7 +9,7 @@ ghost use Prim.Native.Nat.{_+_, _*_, _/_, _%_, _≤_};
 ghost use lib.ListN.{length, take, drop};
 ghost use Rattle.samples.specs.Lists.{over};
 ghost use Rattle.unit.specs.Sizes.{total};
-ghost use Rattle.frame.specs.Passes.{passOut, passEnd};
+ghost use Rattle.allpass.specs.Passes.{passOut, passEnd};
 ghost use Rattle.frame.specs.Frame.{stageAt, ringsOf};
 ghost use Rattle.rows.specs.Steps.{outputFrom};
 
@@ -25,13 +25,13 @@ pub(crate) fn pass_both(f: usize, ps: [usize; 4], qs: [Cursors; 4], rows: &mut [
     let ly = ps[1];
     let cx = qs[0];
     let cy = qs[1];
-    frame::pass_stage(rows, f, f, lx, ly, cx, cy);
+    allpass::pass_stage(rows, f, f, lx, ly, cx, cy);
     let at = f + lx + ly;
     let mx = ps[2];
     let my = ps[3];
     let dx = qs[2];
     let dy = qs[3];
-    frame::pass_stage(rows, f, at, mx, my, dx, dy);
+    allpass::pass_stage(rows, f, at, mx, my, dx, dy);
 }
 
 // Step 5: `rows` are n rows read, n mixed, the output and the allpass rings. Gives the filters after

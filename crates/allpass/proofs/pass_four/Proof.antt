@@ -1,4 +1,4 @@
--- `frame::passes::pass_four` meets its contract: one four of `passed`. Assumes nothing.
+-- `allpass::pass_four` meets its contract: one four of `passed`. Assumes nothing.
 use borrow.Author.Needs.{needs}
 use Prim.Native.Nat.{ℕ, _+_, _-_, _≤_}
 use mathlib.Core.Path.{_≡_, _∙_}
@@ -12,12 +12,12 @@ use Rattle.samples.proofs.Turns.{lent, back}
 use Rattle.delay.specs.declared.Cursors.{Cursors}
 use Rattle.delay.specs.declared.Four.{Four}
 use Rattle.delay.specs.Ring.{listOf, fourOf}
-use Rattle.frame.specs.Passes.{Stage, stageEnd, passOut, passEnd}
-use Rattle.frame.specs.Stages.{stageOf, bothRings, stageIn, passed, turned}
-use Rattle.frame.specs.declared.passes.Turned.{Turned}
-use Rattle.frame.proofs.Stages.{length-rings}
-use Rattle.frame.proofs.passes.pass_four.Statement.{statement}
-use Rattle.frame.proofs.passes.pass_four.Tie as tie
+use Rattle.allpass.specs.Passes.{Stage, stageEnd, passOut, passEnd}
+use Rattle.allpass.specs.Stages.{stageOf, bothRings, stageIn, passed, turned}
+use Rattle.allpass.specs.declared.Turned.{Turned}
+use Rattle.allpass.proofs.Stages.{length-rings}
+use Rattle.allpass.proofs.pass_four.Statement.{statement}
+use Rattle.allpass.proofs.pass_four.Tie as tie
 
 module _ (t at lx ly : ℕ) (cx cy : Cursors) (w : List Float) (fits : at + (lx + ly) ≤ length w) where
   abbrev lentRings : List Float

@@ -1,4 +1,4 @@
--- `frame::passes::turn` meets its contract: each ring is lent twice, and the y ring lies where the x ring ends. Assumes nothing.
+-- `allpass::turn` meets its contract: each ring is lent twice, and the y ring lies where the x ring ends. Assumes nothing.
 use native.Mathlib.Omega.{arith}
 use borrow.Author.Needs.{needs}
 use Prim.Native.Nat.{ℕ, _-_, _≤_}
@@ -16,10 +16,10 @@ use Rattle.delay.specs.declared.FourAnswer.{FourAnswer}
 use Rattle.delay.specs.declared.RingAnswer.{RingAnswer}
 use Rattle.delay.specs.Calls.{get4Answer, put4Answer, put4Ring}
 use Rattle.delay.proofs.Laws.{length-put4Ring}
-use Rattle.frame.specs.Passes.{Stage, allpass4, stageEnd}
-use Rattle.frame.specs.Stages.{stageOf, bothRings, turned}
-use Rattle.frame.proofs.passes.turn.Statement.{statement}
-use Rattle.frame.proofs.passes.turn.Tie as tie
+use Rattle.allpass.specs.Passes.{Stage, allpass4, stageEnd}
+use Rattle.allpass.specs.Stages.{stageOf, bothRings, turned}
+use Rattle.allpass.proofs.turn.Statement.{statement}
+use Rattle.allpass.proofs.turn.Tie as tie
 
 module _ (lx : ℕ) (cx cy : Cursors) (rings : List Float) (x : Four) (h : lx ≤ length rings) where
   abbrev s : Stage

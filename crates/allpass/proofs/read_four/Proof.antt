@@ -1,11 +1,11 @@
--- `frame::passes::read_four` meets its contract. Assumes nothing.
+-- `allpass::read_four` meets its contract. Assumes nothing.
 use borrow.Author.Needs.{needs}
 use native.Mathlib.Nat.{add-zero}
 use lib.Ieee.{nan}
 use lib.Seq.{getD-drop}
 use denote.Ref.{now}
-use Rattle.frame.proofs.passes.read_four.Statement.{statement}
-use Rattle.frame.proofs.passes.read_four.Tie as tie
+use Rattle.allpass.proofs.read_four.Statement.{statement}
+use Rattle.allpass.proofs.read_four.Tie as tie
 
 mul-t3 : tie.Need-mul-t3
 mul-t3 c = search needs

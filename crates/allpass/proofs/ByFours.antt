@@ -6,8 +6,8 @@ use mathlib.Core.List.{List, _++_}
 use lib.Ieee.{Float}
 use lib.ListN.{drop}
 use Rattle.delay.specs.Ring.{listOf, fourOf}
-use Rattle.frame.specs.Passes.{stageOut, stageEnd, passOut, passEnd}
-use Rattle.frame.specs.Stages.{bothOut, bothEnd, ByFours}
+use Rattle.allpass.specs.Passes.{stageOut, stageEnd, passOut, passEnd}
+use Rattle.allpass.specs.Stages.{bothOut, bothEnd, ByFours}
 
 pub by-fours : ByFours
 unfolding passOut passEnd bothOut bothEnd

@@ -1,4 +1,7 @@
 // One allpass stage over a row: both of its rings lie in the stretch that is lent with the row.
+//
+// Its contracts cite `specs/`: a stage of an x ring and a y ring over the fours of a row, and such a
+// stage in a lent stretch.
 use delay::Cursors;
 use delay::Four;
 use delay::get4;
@@ -9,8 +12,8 @@ ghost use Prim.Native.Nat.{_+_, _≤_};
 ghost use lib.ListN.{length, drop};
 ghost use Rattle.samples.specs.Lists.{over};
 ghost use Rattle.delay.specs.Ring.{listOf, fourOf};
-ghost use Rattle.frame.specs.Passes.{allpass, allpass4, stageEnd};
-ghost use Rattle.frame.specs.Stages.{stageOf, bothRings, stageIn, passed, partsFit, staged, turned};
+ghost use Rattle.allpass.specs.Passes.{allpass, allpass4, stageEnd};
+ghost use Rattle.allpass.specs.Stages.{stageOf, bothRings, stageIn, passed, partsFit, staged, turned};
 
 // What four samples leave: the cursors of the two rings, and the four that go on.
 struct Turned {

@@ -1,7 +1,7 @@
--- `frame::passes::allpass4` meets its contract. Assumes nothing.
+-- `allpass::allpass4` meets its contract. Assumes nothing.
 use borrow.Author.Needs.{needs}
-use Rattle.frame.proofs.passes.allpass4.Statement.{statement}
-use Rattle.frame.proofs.passes.allpass4.Tie as tie
+use Rattle.allpass.proofs.allpass4.Statement.{statement}
+use Rattle.allpass.proofs.allpass4.Tie as tie
 
 allpass-requires : tie.Need-allpass-requires
 allpass-requires c κs = search needs

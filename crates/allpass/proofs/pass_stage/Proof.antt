@@ -1,4 +1,4 @@
--- `frame::passes::pass_stage` meets its contract. The invariant: the parts fit, and what the fours that are left leave of w, from the cursors
+-- `allpass::pass_stage` meets its contract. The invariant: the parts fit, and what the fours that are left leave of w, from the cursors
 -- as they are now, is what all of them leave of the w given. Assumes nothing.
 use borrow.Author.Needs.{needs}
 use native.Mathlib.Omega.{arith}
@@ -12,11 +12,11 @@ use borrow.Author.Tests.{not-true, not-false}
 use denote.Ref.{now}
 use Rattle.delay.specs.declared.Cursors.{Cursors}
 use Rattle.delay.specs.Ring.{fourOf}
-use Rattle.frame.specs.declared.passes.Turned.{Turned}
-use Rattle.frame.specs.Stages.{stageIn, turned, passed}
-use Rattle.frame.proofs.Stages.{fit-parts, staged-fit, staged-not, pass-none, pass-more}
-use Rattle.frame.proofs.passes.pass_stage.Statement.{statement}
-use Rattle.frame.proofs.passes.pass_stage.Tie as tie
+use Rattle.allpass.specs.declared.Turned.{Turned}
+use Rattle.allpass.specs.Stages.{stageIn, turned, passed}
+use Rattle.allpass.proofs.Stages.{fit-parts, staged-fit, staged-not, pass-none, pass-more}
+use Rattle.allpass.proofs.pass_stage.Statement.{statement}
+use Rattle.allpass.proofs.pass_stage.Tie as tie
 
 -- a turn does one of the fours that are left
 turn-left : (f t at lx ly : ℕ) (cx cy : Cursors) (w : List Float) → t + 4 ≤ f → f ≤ at → at + (lx + ly) ≤ length w → {r : Turned} {w′ : List Float}

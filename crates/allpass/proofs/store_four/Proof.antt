@@ -1,4 +1,4 @@
--- `frame::passes::store_four` meets its contract: four stores, one after the other, are a row over the list. Assumes nothing.
+-- `allpass::store_four` meets its contract: four stores, one after the other, are a row over the list. Assumes nothing.
 use native.Mathlib.Omega.{arith}
 use borrow.Author.Needs.{needs}
 use mathlib.Core.Path.{_≡_, _∙_}
@@ -10,8 +10,8 @@ use lib.Seq.{sets-eq}
 use Rattle.samples.specs.Lists.{over}
 use Rattle.delay.specs.declared.Four.{Four}
 use Rattle.delay.specs.Ring.{listOf}
-use Rattle.frame.proofs.passes.store_four.Statement.{statement}
-use Rattle.frame.proofs.passes.store_four.Tie as tie
+use Rattle.allpass.proofs.store_four.Statement.{statement}
+use Rattle.allpass.proofs.store_four.Tie as tie
 
 four-stores : (w : List Float) (t : ℕ) (y : Four) → t + 4 ≤ length w
     → set (set (set (set w t (y .0)) (t + 1) (y .1)) (t + 2) (y .2)) (t + 3) (y .3) ≡ over t (listOf y) w

@@ -1,4 +1,4 @@
--- `frame::passes::parts_fit` meets its contract. Assumes nothing.
+-- `allpass::parts_fit` meets its contract. Assumes nothing.
 use native.Mathlib.Omega.{arith}
 use borrow.Author.Needs.{needs}
 use borrow.Author.Tests.{le-leb, lt-leb, leb-true, leb-false}
@@ -6,9 +6,9 @@ use mathlib.Core.Path.{_≡_, refl, sym, ap, _∙_}
 use mathlib.Core.Bool.{Bool, true, false, _&&_}
 use Prim.Native.Nat.{ℕ, _+_, _-_, _≤_, _<_}
 use lib.Dec.{leb}
-use Rattle.frame.specs.Stages.{partsFit}
-use Rattle.frame.proofs.passes.parts_fit.Statement.{statement}
-use Rattle.frame.proofs.passes.parts_fit.Tie as tie
+use Rattle.allpass.specs.Stages.{partsFit}
+use Rattle.allpass.proofs.parts_fit.Statement.{statement}
+use Rattle.allpass.proofs.parts_fit.Tie as tie
 
 and-false : (b : Bool) → (b && false) ≡ false
 and-false true = refl

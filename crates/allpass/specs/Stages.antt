@@ -10,8 +10,8 @@ use Rattle.samples.specs.Lists.{over}
 use Rattle.delay.specs.declared.Cursors.{Cursors}
 use Rattle.delay.specs.declared.Four.{Four}
 use Rattle.delay.specs.Ring.{listOf, fourOf}
-use Rattle.frame.specs.declared.passes.Turned.{Turned}
-use Rattle.frame.specs.Passes.{Stage, stageOut, stageEnd, passOut, passEnd}
+use Rattle.allpass.specs.declared.Turned.{Turned}
+use Rattle.allpass.specs.Passes.{Stage, stageOut, stageEnd, passOut, passEnd}
 
 -- ---- one stage over a row
 
