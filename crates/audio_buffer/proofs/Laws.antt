@@ -1,7 +1,7 @@
 -- What the judgements tell, how long the lists are, and where each sample lies: interleaving and back is nothing. Assumes nothing.
 use mathlib.Core.Path.{_≡_, refl, sym, ap, _∙_}
 use mathlib.Core.Bool.{true, _&&_}
-use mathlib.Core.List.{List, [], _∷_}
+use mathlib.Core.List.{List}
 use Prim.Native.Nat.{ℕ, zero, suc, _+_, _*_, _/_, _%_, _≤_, _<_}
 use native.Mathlib.Nat.{zero-mul, suc-mul, mul-zero, mul-comm, mul-le-mul, div-lt-iff-lt-mul, mod-lt, div-add-mod', not-suc-le-zero, le-of-suc-le-suc}
 use native.Mathlib.Omega.{arith}
@@ -14,9 +14,8 @@ use Rattle.samples.specs.declared.Answer.{Answer}
 use Rattle.samples.specs.declared.Answer.the-variants.{Accepted, BadLength, BadIndex}
 use Rattle.samples.proofs.Laws.{needed, split-and}
 use Rattle.samples.proofs.Turns.{row-ends}
-use Rattle.audio_buffer.specs.Judges.{channelsOk, samplesOk, judgedThen, judgedTwo, judgedDownmix, judgedChannel}
+use Rattle.audio_buffer.specs.Judges.{channelsOk, samplesOk, judgedThen, judgedTwo, judgedChannel}
 use Rattle.audio_buffer.specs.Layout.{column, columns, interleaved, deinterleaved}
-use Rattle.audio_buffer.specs.Levels.{mixed}
 
 -- ---- what a judgement tells
 
@@ -49,15 +48,6 @@ two-of channels samples len other e =
     let p = judged-of channels samples len _ e in
     let q = judged-of channels samples other Accepted (p .2) in
     (p .1, q .1)
-
-pub downmix-of : (channels samples len output : ℕ) → judgedDownmix channels samples len output ≡ Accepted
-    → (channels ≤ 16) × (len ≡ channels * samples) × (output ≡ samples)
-unfolding judgedDownmix
-downmix-of channels samples len output e =
-    let p = needed (samplesOk samples) BadIndex _ refl e in
-    let q = needed (eqb output samples) BadLength _ refl (p .1) in
-    let r = judged-of channels samples len Accepted (q .1) in
-    (r .0 .few, r .1, eqb-true _ _ (q .0))
 
 -- the channel lies within the buffer
 pub channel-of : (channels samples channel len : ℕ) → judgedChannel channels samples channel len ≡ Accepted
@@ -139,10 +129,3 @@ module _ (channels samples : ℕ) (xs : List Float) where
 
   pub interleaved-deinterleaved : length xs ≡ channels * samples → interleaved channels samples (deinterleaved channels samples xs) ≡ xs
   interleaved-deinterleaved e = columns-back channels samples xs (e ∙ mul-comm channels samples)
-
--- ---- levels
-
-pub mixed-length : (xs other : List Float) → length (mixed xs other) ≡ length other
-mixed-length [] other = refl
-mixed-length (x ∷ xs) [] = refl
-mixed-length (x ∷ xs) (y ∷ other) = ap suc (mixed-length xs other)

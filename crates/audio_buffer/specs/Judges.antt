@@ -19,17 +19,9 @@ unfoldable pub judgedThen : ℕ → ℕ → ℕ → Answer → Answer
 judgedThen channels samples len rest =
     need (channelsOk channels && samplesOk samples) BadIndex (need (eqb len (channels * samples)) BadLength rest)
 
--- a call that is lent one buffer, and one that is lent two
-abbrev pub judged : ℕ → ℕ → ℕ → Answer
-judged channels samples len = judgedThen channels samples len Accepted
-
+-- a call that is lent two buffers
 abbrev pub judgedTwo : ℕ → ℕ → ℕ → ℕ → Answer
 judgedTwo channels samples len other = judgedThen channels samples len (judgedThen channels samples other Accepted)
-
--- downmix: the output's length depends on the samples alone, so it is judged before the channels
-unfoldable pub judgedDownmix : ℕ → ℕ → ℕ → ℕ → Answer
-judgedDownmix channels samples len output =
-    need (samplesOk samples) BadIndex (need (eqb output samples) BadLength (judgedThen channels samples len Accepted))
 
 -- "4: channel not below the count"
 abbrev pub judgedChannel : ℕ → ℕ → ℕ → ℕ → Answer

@@ -1,4 +1,3 @@
 pub mod Verdict
 pub mod Judges
 pub mod Layout
-pub mod Levels

@@ -1,20 +1,17 @@
-// Buffers of several channels, each one slice, channel after channel: interleaved and back, made
-// silent, scaled, mixed, brought down to one channel, and a single channel handed out; and what a
-// count of frames says of the tail.
+// Buffers of several channels, each one slice, channel after channel: interleaved and back, a single
+// channel handed out, and what a call that is lent one or two of them refuses; and what a count of
+// frames says of the tail.
 ghost use mathlib.Core.Path.{_≡_};
 ghost use mathlib.Core.List.{[]};
-ghost use Prim.Native.Nat.{_*_, _≤_};
-ghost use lib.ListN.{length, take, drop, replicate};
-ghost use Rattle.samples.specs.Binary32.{+0};
+ghost use Prim.Native.Nat.{_*_};
+ghost use lib.ListN.{length, take, drop};
 ghost use Rattle.samples.specs.Answers.{accept};
 ghost use Rattle.audio_buffer.specs.Verdict.{verdictOf};
-ghost use Rattle.audio_buffer.specs.Judges.{channelsOk, judgedThen, judged, judgedTwo, judgedDownmix, judgedChannel};
+ghost use Rattle.audio_buffer.specs.Judges.{channelsOk, judgedThen, judgedTwo, judgedChannel};
 ghost use Rattle.audio_buffer.specs.Layout.{columns, interleaved, deinterleaved};
-ghost use Rattle.audio_buffer.specs.Levels.{scaled, mixed, summed, downmixed};
 use samples::Answer;
 use samples::Frames;
 use samples::and;
-use samples::clear;
 use samples::is_accepted;
 use samples::need;
 
@@ -27,7 +24,7 @@ pub enum AudioEffectState {
 // The most channels that a buffer has, and the most samples of each.
 const MOST_CHANNELS: usize = 16;
 
-const MOST_SAMPLES: usize = 65536;
+pub const MOST_SAMPLES: usize = 65536;
 
 // What a count of frames says of the tail.
 pub fn verdict(count: Frames) -> AudioEffectState
@@ -48,7 +45,7 @@ fn channels_ok(channels: usize) -> bool
 }
 
 // Judges the counts, then the length of a slice that is to hold them, then what `rest` says.
-fn judge_then(channels: usize, samples: usize, len: usize, rest: Answer) -> Answer
+pub fn judge_then(channels: usize, samples: usize, len: usize, rest: Answer) -> Answer
     ensures { λ r. ⌜ r ≡ judgedThen channels samples len rest ⌝ }
 {
     if and(channels_ok(channels), samples <= MOST_SAMPLES) {
@@ -59,7 +56,7 @@ fn judge_then(channels: usize, samples: usize, len: usize, rest: Answer) -> Answ
 }
 
 // Judges a call that is lent two buffers of one size.
-fn judge_two(channels: usize, samples: usize, len: usize, other: usize) -> Answer
+pub fn judge_two(channels: usize, samples: usize, len: usize, other: usize) -> Answer
     ensures { λ r. ⌜ r ≡ judgedTwo channels samples len other ⌝ }
 {
     judge_then(
@@ -67,18 +64,6 @@ fn judge_two(channels: usize, samples: usize, len: usize, other: usize) -> Answe
         samples,
         len,
         judge_then(channels, samples, other, Answer::Accepted),
-    )
-}
-
-// Judges a downmix of a buffer of `len` samples to an output of `output`.
-fn judge_downmix(channels: usize, samples: usize, len: usize, output: usize) -> Answer
-    ensures { λ r. ⌜ r ≡ judgedDownmix channels samples len output ⌝ }
-{
-    let rest = judge_then(channels, samples, len, Answer::Accepted);
-    need(
-        samples <= MOST_SAMPLES,
-        Answer::BadIndex,
-        need(output == samples, Answer::BadLength, rest),
     )
 }
 
@@ -96,49 +81,6 @@ fn transpose(rows: usize, row: usize, source: &[f32], target: &mut [f32])
             from += row;
         }
     }
-}
-
-// Multiplies each sample by a volume.
-fn amplify(volume: f32, xs: &mut [f32])
-    ensures { λ _. ⌜ now (xs .exit) ≡ scaled volume (now (xs .entry)) ⌝ }
-{
-    for i in 0..xs.len() {
-        xs[i] = xs[i] * volume;
-    }
-}
-
-// Adds each sample to the other row's sample at its place.
-fn add(xs: &[f32], other: &mut [f32])
-    requires { ⌜ length (now xs) ≡ length (now other) ⌝ }
-    ensures { λ _. ⌜ now (other .exit) ≡ mixed (now (xs .entry)) (now (other .entry)) ⌝ }
-{
-    for i in 0..xs.len() {
-        other[i] = other[i] + xs[i];
-    }
-}
-
-// Adds every channel of a buffer to a row, in order.
-fn add_channels(channels: usize, samples: usize, buffer: &[f32], row: &mut [f32])
-    requires { ⌜ (length (now buffer) ≡ channels * samples) × (length (now row) ≡ samples) ⌝ }
-    ensures { λ _. ⌜ now (row .exit) ≡ summed samples channels (now (row .entry)) (now (buffer .entry)) ⌝ }
-{
-    let mut at = 0;
-    for i in 0..channels {
-        let end = at + samples;
-        add(&buffer[at..end], row);
-        at = end;
-    }
-}
-
-// Writes the mean of a buffer's channels.
-fn average(channels: usize, samples: usize, buffer: &[f32], output: &mut [f32])
-    requires { ⌜ (channels ≤ 16) × (length (now buffer) ≡ channels * samples) × (length (now output) ≡ samples) ⌝ }
-    ensures { λ _. ⌜ now (output .exit) ≡ downmixed channels samples (now (buffer .entry)) ⌝ }
-{
-    let share = 1.0 / channels as f32;
-    clear(output);
-    add_channels(channels, samples, buffer, output);
-    amplify(share, output);
 }
 
 // Writes a buffer frame after frame.
@@ -171,54 +113,6 @@ pub fn read_interleaved(
     let answer = judge_two(channels, samples, source.len(), buffer.len());
     if is_accepted(answer) {
         transpose(samples, channels, source, buffer);
-    }
-    answer
-}
-
-// Sets every sample of a buffer to +0.
-pub fn make_silent(channels: usize, samples: usize, buffer: &mut [f32]) -> Answer
-    ensures { λ r. ⌜ r ≡ judged channels samples (length (now (buffer .entry))) ⌝ }
-    ensures { λ _. ⌜ now (buffer .exit) ≡ accept (judged channels samples (length (now (buffer .entry)))) (replicate (length (now (buffer .entry))) +0) (now (buffer .entry)) ⌝ }
-{
-    let answer = judge_then(channels, samples, buffer.len(), Answer::Accepted);
-    if is_accepted(answer) {
-        clear(buffer);
-    }
-    answer
-}
-
-// Multiplies every sample of a buffer by a volume.
-pub fn scale(channels: usize, samples: usize, volume: f32, buffer: &mut [f32]) -> Answer
-    ensures { λ r. ⌜ r ≡ judged channels samples (length (now (buffer .entry))) ⌝ }
-    ensures { λ _. ⌜ now (buffer .exit) ≡ accept (judged channels samples (length (now (buffer .entry)))) (scaled volume (now (buffer .entry))) (now (buffer .entry)) ⌝ }
-{
-    let answer = judge_then(channels, samples, buffer.len(), Answer::Accepted);
-    if is_accepted(answer) {
-        amplify(volume, buffer);
-    }
-    answer
-}
-
-// Adds a buffer to another.
-pub fn mix(channels: usize, samples: usize, buffer: &[f32], other: &mut [f32]) -> Answer
-    ensures { λ r. ⌜ r ≡ judgedTwo channels samples (length (now (buffer .entry))) (length (now (other .entry))) ⌝ }
-    ensures { λ _. ⌜ now (other .exit) ≡ accept (judgedTwo channels samples (length (now (buffer .entry))) (length (now (other .entry)))) (mixed (now (buffer .entry)) (now (other .entry))) (now (other .entry)) ⌝ }
-{
-    let answer = judge_two(channels, samples, buffer.len(), other.len());
-    if is_accepted(answer) {
-        add(buffer, other);
-    }
-    answer
-}
-
-// Brings a buffer down to one channel, the mean of its channels.
-pub fn downmix(channels: usize, samples: usize, buffer: &[f32], output: &mut [f32]) -> Answer
-    ensures { λ r. ⌜ r ≡ judgedDownmix channels samples (length (now (buffer .entry))) (length (now (output .entry))) ⌝ }
-    ensures { λ _. ⌜ now (output .exit) ≡ accept (judgedDownmix channels samples (length (now (buffer .entry))) (length (now (output .entry)))) (downmixed channels samples (now (buffer .entry))) (now (output .entry)) ⌝ }
-{
-    let answer = judge_downmix(channels, samples, buffer.len(), output.len());
-    if is_accepted(answer) {
-        average(channels, samples, buffer, output);
     }
     answer
 }

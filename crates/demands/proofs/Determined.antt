@@ -83,22 +83,26 @@ use Rattle.primes.proofs.delay_values.Kinds as primes-delay-values-kinds
 use Rattle.primes.proofs.delay_values.Reads as primes-delay-values-reads
 use Rattle.audio_buffer.proofs.verdict.Kinds as audio-buffer-verdict-kinds
 use Rattle.audio_buffer.proofs.verdict.Reads as audio-buffer-verdict-reads
+use Rattle.audio_buffer.proofs.judge_then.Kinds as audio-buffer-judge-then-kinds
+use Rattle.audio_buffer.proofs.judge_then.Reads as audio-buffer-judge-then-reads
+use Rattle.audio_buffer.proofs.judge_two.Kinds as audio-buffer-judge-two-kinds
+use Rattle.audio_buffer.proofs.judge_two.Reads as audio-buffer-judge-two-reads
 use Rattle.audio_buffer.proofs.write_interleaved.Kinds as audio-buffer-write-interleaved-kinds
 use Rattle.audio_buffer.proofs.write_interleaved.Reads as audio-buffer-write-interleaved-reads
 use Rattle.audio_buffer.proofs.read_interleaved.Kinds as audio-buffer-read-interleaved-kinds
 use Rattle.audio_buffer.proofs.read_interleaved.Reads as audio-buffer-read-interleaved-reads
-use Rattle.audio_buffer.proofs.make_silent.Kinds as audio-buffer-make-silent-kinds
-use Rattle.audio_buffer.proofs.make_silent.Reads as audio-buffer-make-silent-reads
-use Rattle.audio_buffer.proofs.scale.Kinds as audio-buffer-scale-kinds
-use Rattle.audio_buffer.proofs.scale.Reads as audio-buffer-scale-reads
-use Rattle.audio_buffer.proofs.mix.Kinds as audio-buffer-mix-kinds
-use Rattle.audio_buffer.proofs.mix.Reads as audio-buffer-mix-reads
-use Rattle.audio_buffer.proofs.downmix.Kinds as audio-buffer-downmix-kinds
-use Rattle.audio_buffer.proofs.downmix.Reads as audio-buffer-downmix-reads
 use Rattle.audio_buffer.proofs.channel_number.Kinds as audio-buffer-channel-number-kinds
 use Rattle.audio_buffer.proofs.channel_number.Reads as audio-buffer-channel-number-reads
 use Rattle.audio_buffer.proofs.channel.Kinds as audio-buffer-channel-kinds
 use Rattle.audio_buffer.proofs.channel.Reads as audio-buffer-channel-reads
+use Rattle.levels.proofs.make_silent.Kinds as levels-make-silent-kinds
+use Rattle.levels.proofs.make_silent.Reads as levels-make-silent-reads
+use Rattle.levels.proofs.scale.Kinds as levels-scale-kinds
+use Rattle.levels.proofs.scale.Reads as levels-scale-reads
+use Rattle.levels.proofs.mix.Kinds as levels-mix-kinds
+use Rattle.levels.proofs.mix.Reads as levels-mix-reads
+use Rattle.levels.proofs.downmix.Kinds as levels-downmix-kinds
+use Rattle.levels.proofs.downmix.Reads as levels-downmix-reads
 use Rattle.wire.proofs.sample.Kinds as wire-sample-kinds
 use Rattle.wire.proofs.sample.Reads as wire-sample-reads
 use Rattle.wire.proofs.bits.Kinds as wire-bits-kinds
@@ -368,6 +372,12 @@ primes-delay-values-out κs a x y s t p q = p .1 ∙ sym (q .1)
 pub audio-buffer-verdict : OneResult 0 audio-buffer-verdict-kinds.ps audio-buffer-verdict-kinds.r audio-buffer-verdict-reads.Post
 audio-buffer-verdict κs a x y s t p q = p ∙ sym (q)
 
+pub audio-buffer-judge-then : OneResult 0 audio-buffer-judge-then-kinds.ps audio-buffer-judge-then-kinds.r audio-buffer-judge-then-reads.Post
+audio-buffer-judge-then κs a x y s t p q = p ∙ sym (q)
+
+pub audio-buffer-judge-two : OneResult 0 audio-buffer-judge-two-kinds.ps audio-buffer-judge-two-kinds.r audio-buffer-judge-two-reads.Post
+audio-buffer-judge-two κs a x y s t p q = p ∙ sym (q)
+
 pub audio-buffer-write-interleaved : OneResult 2 audio-buffer-write-interleaved-kinds.ps audio-buffer-write-interleaved-kinds.r audio-buffer-write-interleaved-reads.Post
 audio-buffer-write-interleaved κs a x y s t p q = p .0 ∙ sym (q .0)
 
@@ -380,35 +390,37 @@ audio-buffer-read-interleaved κs a x y s t p q = p .0 ∙ sym (q .0)
 pub audio-buffer-read-interleaved-buffer : OneExit 2 audio-buffer-read-interleaved-kinds.ps audio-buffer-read-interleaved-kinds.r audio-buffer-read-interleaved-reads.Post (λ κs s. s .1 .1 .1 .0 .now)
 audio-buffer-read-interleaved-buffer κs a x y s t p q = p .1 ∙ sym (q .1)
 
-pub audio-buffer-make-silent : OneResult 1 audio-buffer-make-silent-kinds.ps audio-buffer-make-silent-kinds.r audio-buffer-make-silent-reads.Post
-audio-buffer-make-silent κs a x y s t p q = p .0 ∙ sym (q .0)
-
-pub audio-buffer-make-silent-buffer : OneExit 1 audio-buffer-make-silent-kinds.ps audio-buffer-make-silent-kinds.r audio-buffer-make-silent-reads.Post (λ κs s. s .1 .1 .0 .now)
-audio-buffer-make-silent-buffer κs a x y s t p q = p .1 ∙ sym (q .1)
-
-pub audio-buffer-scale : OneResult 1 audio-buffer-scale-kinds.ps audio-buffer-scale-kinds.r audio-buffer-scale-reads.Post
-audio-buffer-scale κs a x y s t p q = p .0 ∙ sym (q .0)
-
-pub audio-buffer-scale-buffer : OneExit 1 audio-buffer-scale-kinds.ps audio-buffer-scale-kinds.r audio-buffer-scale-reads.Post (λ κs s. s .1 .1 .1 .0 .now)
-audio-buffer-scale-buffer κs a x y s t p q = p .1 ∙ sym (q .1)
-
-pub audio-buffer-mix : OneResult 2 audio-buffer-mix-kinds.ps audio-buffer-mix-kinds.r audio-buffer-mix-reads.Post
-audio-buffer-mix κs a x y s t p q = p .0 ∙ sym (q .0)
-
-pub audio-buffer-mix-other : OneExit 2 audio-buffer-mix-kinds.ps audio-buffer-mix-kinds.r audio-buffer-mix-reads.Post (λ κs s. s .1 .1 .1 .0 .now)
-audio-buffer-mix-other κs a x y s t p q = p .1 ∙ sym (q .1)
-
-pub audio-buffer-downmix : OneResult 2 audio-buffer-downmix-kinds.ps audio-buffer-downmix-kinds.r audio-buffer-downmix-reads.Post
-audio-buffer-downmix κs a x y s t p q = p .0 ∙ sym (q .0)
-
-pub audio-buffer-downmix-output : OneExit 2 audio-buffer-downmix-kinds.ps audio-buffer-downmix-kinds.r audio-buffer-downmix-reads.Post (λ κs s. s .1 .1 .1 .0 .now)
-audio-buffer-downmix-output κs a x y s t p q = p .1 ∙ sym (q .1)
-
 pub audio-buffer-channel-number : OneResult 0 audio-buffer-channel-number-kinds.ps audio-buffer-channel-number-kinds.r audio-buffer-channel-number-reads.Post
 audio-buffer-channel-number κs a x y s t p q = p ∙ sym (q)
 
 pub audio-buffer-channel : OneValue 1 audio-buffer-channel-kinds.ps audio-buffer-channel-kinds.r audio-buffer-channel-reads.Post (λ κs x. now x)
 audio-buffer-channel κs a x y s t p q = p ∙ sym (q)
+
+-- ---- levels
+
+pub levels-make-silent : OneResult 1 levels-make-silent-kinds.ps levels-make-silent-kinds.r levels-make-silent-reads.Post
+levels-make-silent κs a x y s t p q = p .0 ∙ sym (q .0)
+
+pub levels-make-silent-buffer : OneExit 1 levels-make-silent-kinds.ps levels-make-silent-kinds.r levels-make-silent-reads.Post (λ κs s. s .1 .1 .0 .now)
+levels-make-silent-buffer κs a x y s t p q = p .1 ∙ sym (q .1)
+
+pub levels-scale : OneResult 1 levels-scale-kinds.ps levels-scale-kinds.r levels-scale-reads.Post
+levels-scale κs a x y s t p q = p .0 ∙ sym (q .0)
+
+pub levels-scale-buffer : OneExit 1 levels-scale-kinds.ps levels-scale-kinds.r levels-scale-reads.Post (λ κs s. s .1 .1 .1 .0 .now)
+levels-scale-buffer κs a x y s t p q = p .1 ∙ sym (q .1)
+
+pub levels-mix : OneResult 2 levels-mix-kinds.ps levels-mix-kinds.r levels-mix-reads.Post
+levels-mix κs a x y s t p q = p .0 ∙ sym (q .0)
+
+pub levels-mix-other : OneExit 2 levels-mix-kinds.ps levels-mix-kinds.r levels-mix-reads.Post (λ κs s. s .1 .1 .1 .0 .now)
+levels-mix-other κs a x y s t p q = p .1 ∙ sym (q .1)
+
+pub levels-downmix : OneResult 2 levels-downmix-kinds.ps levels-downmix-kinds.r levels-downmix-reads.Post
+levels-downmix κs a x y s t p q = p .0 ∙ sym (q .0)
+
+pub levels-downmix-output : OneExit 2 levels-downmix-kinds.ps levels-downmix-kinds.r levels-downmix-reads.Post (λ κs s. s .1 .1 .1 .0 .now)
+levels-downmix-output κs a x y s t p q = p .1 ∙ sym (q .1)
 
 -- ---- wire
 

@@ -11,7 +11,7 @@ use Rattle.hadamard.specs.Mix.{minus, mixAt, mixed}
 use Rattle.bands.specs.Tail.{ceiling}
 use Rattle.bands.specs.Times.{timeOk, larger}
 use Rattle.primes.specs.Power.{powerFrom}
-use Rattle.audio_buffer.specs.Levels.{share, downmixed}
+use Rattle.levels.specs.Levels.{share, downmixed}
 use Rattle.demands.specs.Examples.{Examples}
 
 pub examples : Examples

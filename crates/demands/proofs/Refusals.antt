@@ -15,9 +15,10 @@ use Rattle.delay.specs.Calls.{judgedLength, judgedRing, judgedCount, readTo, wr
 use Rattle.hadamard.specs.Mix.{mixed, quarter}
 use Rattle.hadamard.specs.Rows.{rowsMixed}
 use Rattle.primes.specs.Values.{judgedValues, valuesFrom, delayMin}
-use Rattle.audio_buffer.specs.Judges.{judged, judgedTwo, judgedDownmix}
+use Rattle.audio_buffer.specs.Judges.{judgedTwo}
 use Rattle.audio_buffer.specs.Layout.{interleaved, deinterleaved}
-use Rattle.audio_buffer.specs.Levels.{scaled, mixed as buffersMixed, downmixed}
+use Rattle.levels.specs.Judges.{judged, judgedDownmix}
+use Rattle.levels.specs.Levels.{scaled, mixed as buffersMixed, downmixed}
 use Rattle.demands.specs.Determined.{Unchanged}
 use Rattle.delay.proofs.fresh.Kinds as delay-fresh-kinds
 use Rattle.delay.proofs.fresh.Reads as delay-fresh-reads
@@ -41,14 +42,14 @@ use Rattle.audio_buffer.proofs.write_interleaved.Kinds as audio-buffer-write-in
 use Rattle.audio_buffer.proofs.write_interleaved.Reads as audio-buffer-write-interleaved-reads
 use Rattle.audio_buffer.proofs.read_interleaved.Kinds as audio-buffer-read-interleaved-kinds
 use Rattle.audio_buffer.proofs.read_interleaved.Reads as audio-buffer-read-interleaved-reads
-use Rattle.audio_buffer.proofs.make_silent.Kinds as audio-buffer-make-silent-kinds
-use Rattle.audio_buffer.proofs.make_silent.Reads as audio-buffer-make-silent-reads
-use Rattle.audio_buffer.proofs.scale.Kinds as audio-buffer-scale-kinds
-use Rattle.audio_buffer.proofs.scale.Reads as audio-buffer-scale-reads
-use Rattle.audio_buffer.proofs.mix.Kinds as audio-buffer-mix-kinds
-use Rattle.audio_buffer.proofs.mix.Reads as audio-buffer-mix-reads
-use Rattle.audio_buffer.proofs.downmix.Kinds as audio-buffer-downmix-kinds
-use Rattle.audio_buffer.proofs.downmix.Reads as audio-buffer-downmix-reads
+use Rattle.levels.proofs.make_silent.Kinds as levels-make-silent-kinds
+use Rattle.levels.proofs.make_silent.Reads as levels-make-silent-reads
+use Rattle.levels.proofs.scale.Kinds as levels-scale-kinds
+use Rattle.levels.proofs.scale.Reads as levels-scale-reads
+use Rattle.levels.proofs.mix.Kinds as levels-mix-kinds
+use Rattle.levels.proofs.mix.Reads as levels-mix-reads
+use Rattle.levels.proofs.downmix.Kinds as levels-downmix-kinds
+use Rattle.levels.proofs.downmix.Reads as levels-downmix-reads
 
 -- what is `new` where the answer b accepts and `old` where it refuses is `old`, if the answer given, which is b, refuses
 pub kept : {A : Type 0} (a b : Answer) (new old : A) {left : A} → left ≡ accept b new old → a ≡ b → accepted a ≡ false → left ≡ old
@@ -121,18 +122,20 @@ pub audio-buffer-read-interleaved-buffer : Unchanged 2 audio-buffer-read-interle
 audio-buffer-read-interleaved-buffer κs a x s p h =
     kept (x) (judgedTwo (a .0) (a .1 .0) (length (a .1 .1 .0 .now)) (length (a .1 .1 .1 .0 .now))) (deinterleaved (a .0) (a .1 .0) (a .1 .1 .0 .now)) (a .1 .1 .1 .0 .now) (p .1) (p .0) h
 
-pub audio-buffer-make-silent-buffer : Unchanged 1 audio-buffer-make-silent-kinds.ps audio-buffer-make-silent-kinds.r audio-buffer-make-silent-reads.Post (λ κs x. x) (λ κs x s. s .1 .1 .0 .now) (λ κs a. a .1 .1 .0 .now)
-audio-buffer-make-silent-buffer κs a x s p h =
+-- ---- levels
+
+pub levels-make-silent-buffer : Unchanged 1 levels-make-silent-kinds.ps levels-make-silent-kinds.r levels-make-silent-reads.Post (λ κs x. x) (λ κs x s. s .1 .1 .0 .now) (λ κs a. a .1 .1 .0 .now)
+levels-make-silent-buffer κs a x s p h =
     kept (x) (judged (a .0) (a .1 .0) (length (a .1 .1 .0 .now))) (replicate (length (a .1 .1 .0 .now)) +0) (a .1 .1 .0 .now) (p .1) (p .0) h
 
-pub audio-buffer-scale-buffer : Unchanged 1 audio-buffer-scale-kinds.ps audio-buffer-scale-kinds.r audio-buffer-scale-reads.Post (λ κs x. x) (λ κs x s. s .1 .1 .1 .0 .now) (λ κs a. a .1 .1 .1 .0 .now)
-audio-buffer-scale-buffer κs a x s p h =
+pub levels-scale-buffer : Unchanged 1 levels-scale-kinds.ps levels-scale-kinds.r levels-scale-reads.Post (λ κs x. x) (λ κs x s. s .1 .1 .1 .0 .now) (λ κs a. a .1 .1 .1 .0 .now)
+levels-scale-buffer κs a x s p h =
     kept (x) (judged (a .0) (a .1 .0) (length (a .1 .1 .1 .0 .now))) (scaled (a .1 .1 .0) (a .1 .1 .1 .0 .now)) (a .1 .1 .1 .0 .now) (p .1) (p .0) h
 
-pub audio-buffer-mix-other : Unchanged 2 audio-buffer-mix-kinds.ps audio-buffer-mix-kinds.r audio-buffer-mix-reads.Post (λ κs x. x) (λ κs x s. s .1 .1 .1 .0 .now) (λ κs a. a .1 .1 .1 .0 .now)
-audio-buffer-mix-other κs a x s p h =
+pub levels-mix-other : Unchanged 2 levels-mix-kinds.ps levels-mix-kinds.r levels-mix-reads.Post (λ κs x. x) (λ κs x s. s .1 .1 .1 .0 .now) (λ κs a. a .1 .1 .1 .0 .now)
+levels-mix-other κs a x s p h =
     kept (x) (judgedTwo (a .0) (a .1 .0) (length (a .1 .1 .0 .now)) (length (a .1 .1 .1 .0 .now))) (buffersMixed (a .1 .1 .0 .now) (a .1 .1 .1 .0 .now)) (a .1 .1 .1 .0 .now) (p .1) (p .0) h
 
-pub audio-buffer-downmix-output : Unchanged 2 audio-buffer-downmix-kinds.ps audio-buffer-downmix-kinds.r audio-buffer-downmix-reads.Post (λ κs x. x) (λ κs x s. s .1 .1 .1 .0 .now) (λ κs a. a .1 .1 .1 .0 .now)
-audio-buffer-downmix-output κs a x s p h =
+pub levels-downmix-output : Unchanged 2 levels-downmix-kinds.ps levels-downmix-kinds.r levels-downmix-reads.Post (λ κs x. x) (λ κs x s. s .1 .1 .1 .0 .now) (λ κs a. a .1 .1 .1 .0 .now)
+levels-downmix-output κs a x s p h =
     kept (x) (judgedDownmix (a .0) (a .1 .0) (length (a .1 .1 .0 .now)) (length (a .1 .1 .1 .0 .now))) (downmixed (a .0) (a .1 .0) (a .1 .1 .0 .now)) (a .1 .1 .1 .0 .now) (p .1) (p .0) h

@@ -18,7 +18,7 @@ use Rattle.primes.specs.Power.{nearestPower}
 use Rattle.audio_buffer.specs.declared.AudioEffectState.the-variants.{TailComplete}
 use Rattle.audio_buffer.specs.Verdict.{verdictOf}
 use Rattle.audio_buffer.specs.Layout.{deinterleaved}
-use Rattle.audio_buffer.specs.Levels.{downmixed}
+use Rattle.levels.specs.Levels.{downmixed}
 
 -- whole numbers as floats, and other floats by their bits: 1, 2, 100, 0.5, -0.5 and 0.25
 abbrev pub floats : List ℕ → List Float

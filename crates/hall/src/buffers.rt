@@ -4,9 +4,10 @@ ghost use mathlib.Core.Path.{_≡_};
 ghost use lib.ListN.{length, replicate};
 ghost use Rattle.samples.specs.Binary32.{+0};
 ghost use Rattle.samples.specs.Answers.{numberOf, accept};
-ghost use Rattle.audio_buffer.specs.Judges.{judged, judgedTwo, judgedDownmix, judgedChannel};
+ghost use Rattle.audio_buffer.specs.Judges.{judgedTwo, judgedChannel};
 ghost use Rattle.audio_buffer.specs.Layout.{interleaved, deinterleaved};
-ghost use Rattle.audio_buffer.specs.Levels.{scaled, mixed, downmixed};
+ghost use Rattle.levels.specs.Judges.{judged, judgedDownmix};
+ghost use Rattle.levels.specs.Levels.{scaled, mixed, downmixed};
 
 // Writes a buffer frame after frame.
 #[no_mangle]
@@ -42,7 +43,7 @@ pub extern "C" fn hall_make_silent(channels: usize, samples: usize, buffer: &mut
     ensures { λ r. ⌜ r ≡ numberOf (judged channels samples (length (now (buffer .entry)))) ⌝ }
     ensures { λ _. ⌜ now (buffer .exit) ≡ accept (judged channels samples (length (now (buffer .entry)))) (replicate (length (now (buffer .entry))) +0) (now (buffer .entry)) ⌝ }
 {
-    number(audio_buffer::make_silent(channels, samples, buffer))
+    number(levels::make_silent(channels, samples, buffer))
 }
 
 // Multiplies every sample of a buffer by a volume.
@@ -56,7 +57,7 @@ pub extern "C" fn hall_scale(
     ensures { λ r. ⌜ r ≡ numberOf (judged channels samples (length (now (buffer .entry)))) ⌝ }
     ensures { λ _. ⌜ now (buffer .exit) ≡ accept (judged channels samples (length (now (buffer .entry)))) (scaled volume (now (buffer .entry))) (now (buffer .entry)) ⌝ }
 {
-    number(audio_buffer::scale(channels, samples, volume, buffer))
+    number(levels::scale(channels, samples, volume, buffer))
 }
 
 // Adds a buffer to another.
@@ -70,7 +71,7 @@ pub extern "C" fn hall_buffer_mix(
     ensures { λ r. ⌜ r ≡ numberOf (judgedTwo channels samples (length (now (buffer .entry))) (length (now (other .entry)))) ⌝ }
     ensures { λ _. ⌜ now (other .exit) ≡ accept (judgedTwo channels samples (length (now (buffer .entry))) (length (now (other .entry)))) (mixed (now (buffer .entry)) (now (other .entry))) (now (other .entry)) ⌝ }
 {
-    number(audio_buffer::mix(channels, samples, buffer, other))
+    number(levels::mix(channels, samples, buffer, other))
 }
 
 // Brings a buffer down to one channel, the mean of its channels.
@@ -84,7 +85,7 @@ pub extern "C" fn hall_downmix(
     ensures { λ r. ⌜ r ≡ numberOf (judgedDownmix channels samples (length (now (buffer .entry))) (length (now (output .entry)))) ⌝ }
     ensures { λ _. ⌜ now (output .exit) ≡ accept (judgedDownmix channels samples (length (now (buffer .entry))) (length (now (output .entry)))) (downmixed channels samples (now (buffer .entry))) (now (output .entry)) ⌝ }
 {
-    number(audio_buffer::downmix(channels, samples, buffer, output))
+    number(levels::downmix(channels, samples, buffer, output))
 }
 
 // Judges the request for one channel of a buffer that is `length` samples long.

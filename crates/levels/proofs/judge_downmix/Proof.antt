@@ -1,8 +1,8 @@
--- `audio_buffer::judge_downmix` meets its contract. Assumes nothing.
+-- `levels::judge_downmix` meets its contract. Assumes nothing.
 use borrow.Author.Needs.{needs}
-use Rattle.audio_buffer.specs.Judges.{judgedDownmix}
-use Rattle.audio_buffer.proofs.judge_downmix.Statement.{statement}
-use Rattle.audio_buffer.proofs.judge_downmix.Tie as tie
+use Rattle.levels.specs.Judges.{judgedDownmix}
+use Rattle.levels.proofs.judge_downmix.Statement.{statement}
+use Rattle.levels.proofs.judge_downmix.Tie as tie
 
 judge-then-requires : tie.Need-judge-then-requires
 judge-then-requires c κs = search needs

@@ -1,4 +1,4 @@
--- `audio_buffer::add_channels` meets its contract. The invariant: the channels that are left, added to the row, give what all give. Assumes nothing.
+-- `levels::add_channels` meets its contract. The invariant: the channels that are left, added to the row, give what all give. Assumes nothing.
 use borrow.Author.Needs.{needs}
 use native.Mathlib.Omega.{arith}
 use mathlib.Core.Path.{_≡_, refl, sym, _∙_}
@@ -6,10 +6,10 @@ use Prim.Native.Nat.{_+_, _-_, _*_, _≤_}
 use native.Mathlib.Nat.{add-mul, sub-zero}
 use lib.ListN.{length, drop, length-take, length-drop}
 use Rattle.samples.proofs.Turns.{row-ends, lent}
-use Rattle.audio_buffer.proofs.Turns.{summed-more}
-use Rattle.audio_buffer.specs.Levels.{summed}
-use Rattle.audio_buffer.proofs.add_channels.Statement.{statement}
-use Rattle.audio_buffer.proofs.add_channels.Tie as tie
+use Rattle.levels.proofs.Turns.{summed-more}
+use Rattle.levels.specs.Levels.{summed}
+use Rattle.levels.proofs.add_channels.Statement.{statement}
+use Rattle.levels.proofs.add_channels.Tie as tie
 
 abbrev Inv-loop : tie.InvT-loop
 Inv-loop channels samples buffer row₀ at₀ i₀ row at i =

@@ -1,4 +1,4 @@
--- `audio_buffer::add` meets its contract. The invariant: what is done, before what is left mixed, is the whole mixed. Assumes nothing.
+-- `levels::add` meets its contract. The invariant: what is done, before what is left mixed, is the whole mixed. Assumes nothing.
 use borrow.Author.Needs.{needs}
 use native.Mathlib.Omega.{arith}
 use mathlib.Core.Path.{_≡_, sym, _∙_}
@@ -7,9 +7,9 @@ use Prim.Native.Nat.{_≤_, _-_}
 use lib.ListN.{length, take, drop, length-set, drop-of-length-le, take-append-drop}
 use lib.Ieee.{nan}
 use Rattle.samples.proofs.Turns.{next, front, stored}
-use Rattle.audio_buffer.specs.Levels.{mixed}
-use Rattle.audio_buffer.proofs.add.Statement.{statement}
-use Rattle.audio_buffer.proofs.add.Tie as tie
+use Rattle.levels.specs.Levels.{mixed}
+use Rattle.levels.proofs.add.Statement.{statement}
+use Rattle.levels.proofs.add.Tie as tie
 
 abbrev Inv-loop : tie.InvT-loop
 Inv-loop xs other₀ i₀ i-end other i =

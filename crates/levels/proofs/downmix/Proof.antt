@@ -1,9 +1,9 @@
--- `audio_buffer::downmix` meets its contract. Assumes nothing.
+-- `levels::downmix` meets its contract. Assumes nothing.
 use borrow.Author.Needs.{needs}
 use Rattle.samples.proofs.Laws.{let-by, new-made, old-left}
-use Rattle.audio_buffer.proofs.Laws.{downmix-of}
-use Rattle.audio_buffer.proofs.downmix.Statement.{statement}
-use Rattle.audio_buffer.proofs.downmix.Tie as tie
+use Rattle.levels.proofs.Laws.{downmix-of}
+use Rattle.levels.proofs.downmix.Statement.{statement}
+use Rattle.levels.proofs.downmix.Tie as tie
 
 judge-downmix-requires : tie.Need-judge-downmix-requires
 judge-downmix-requires c κs = search needs

@@ -1,10 +1,10 @@
--- `audio_buffer::mix` meets its contract. Assumes nothing.
+-- `levels::mix` meets its contract. Assumes nothing.
 use borrow.Author.Needs.{needs}
 use Rattle.samples.proofs.Laws.{let-by, new-made, old-left}
 use Rattle.audio_buffer.proofs.Laws.{two-of}
 use mathlib.Core.Path.{sym, _∙_}
-use Rattle.audio_buffer.proofs.mix.Statement.{statement}
-use Rattle.audio_buffer.proofs.mix.Tie as tie
+use Rattle.levels.proofs.mix.Statement.{statement}
+use Rattle.levels.proofs.mix.Tie as tie
 
 judge-two-requires : tie.Need-judge-two-requires
 judge-two-requires c κs = search needs

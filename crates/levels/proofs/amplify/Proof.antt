@@ -1,4 +1,4 @@
--- `audio_buffer::amplify` meets its contract. The invariant: what is done, before what is left scaled, is the whole scaled. Assumes nothing.
+-- `levels::amplify` meets its contract. The invariant: what is done, before what is left scaled, is the whole scaled. Assumes nothing.
 use borrow.Author.Needs.{needs}
 use native.Mathlib.Omega.{arith}
 use mathlib.Core.Path.{_≡_, ap, _∙_}
@@ -7,9 +7,9 @@ use Prim.Native.Nat.{_≤_, _-_}
 use lib.ListN.{length, take, drop, length-set, drop-of-length-le}
 use lib.Ieee.{nan}
 use Rattle.samples.proofs.Turns.{front, stored, all-done}
-use Rattle.audio_buffer.specs.Levels.{scaled}
-use Rattle.audio_buffer.proofs.amplify.Statement.{statement}
-use Rattle.audio_buffer.proofs.amplify.Tie as tie
+use Rattle.levels.specs.Levels.{scaled}
+use Rattle.levels.proofs.amplify.Statement.{statement}
+use Rattle.levels.proofs.amplify.Tie as tie
 
 abbrev Inv-loop : tie.InvT-loop
 Inv-loop volume xs₀ i₀ i-end xs i =

@@ -1,9 +1,9 @@
--- `audio_buffer::average` meets its contract: so few channels are a float exactly. Assumes nothing.
+-- `levels::average` meets its contract: so few channels are a float exactly. Assumes nothing.
 use borrow.Author.Needs.{needs}
-use Rattle.audio_buffer.specs.Levels.{share, downmixed}
-use Rattle.audio_buffer.proofs.Turns.{few-exact}
-use Rattle.audio_buffer.proofs.average.Statement.{statement}
-use Rattle.audio_buffer.proofs.average.Tie as tie
+use Rattle.levels.specs.Levels.{share, downmixed}
+use Rattle.levels.proofs.Turns.{few-exact}
+use Rattle.levels.proofs.average.Statement.{statement}
+use Rattle.levels.proofs.average.Tie as tie
 
 int-to-float-share : tie.Need-int-to-float-share
 int-to-float-share c = few-exact _ (c .before .before .before .pre .0)
