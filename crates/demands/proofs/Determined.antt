@@ -23,12 +23,12 @@ use Rattle.samples.proofs.is_plus_zero.Kinds as samples-is-plus-zero-kinds
 use Rattle.samples.proofs.is_plus_zero.Reads as samples-is-plus-zero-reads
 use Rattle.samples.proofs.clear.Kinds as samples-clear-kinds
 use Rattle.samples.proofs.clear.Reads as samples-clear-reads
-use Rattle.samples.proofs.first_bad.Kinds as samples-first-bad-kinds
-use Rattle.samples.proofs.first_bad.Reads as samples-first-bad-reads
-use Rattle.samples.proofs.is_nothing.Kinds as samples-is-nothing-kinds
-use Rattle.samples.proofs.is_nothing.Reads as samples-is-nothing-reads
-use Rattle.samples.proofs.all_finite.Kinds as samples-all-finite-kinds
-use Rattle.samples.proofs.all_finite.Reads as samples-all-finite-reads
+use Rattle.search.proofs.first_bad.Kinds as search-first-bad-kinds
+use Rattle.search.proofs.first_bad.Reads as search-first-bad-reads
+use Rattle.search.proofs.is_nothing.Kinds as search-is-nothing-kinds
+use Rattle.search.proofs.is_nothing.Reads as search-is-nothing-reads
+use Rattle.search.proofs.all_finite.Kinds as search-all-finite-kinds
+use Rattle.search.proofs.all_finite.Reads as search-all-finite-reads
 use Rattle.delay.proofs.fresh.Kinds as delay-fresh-kinds
 use Rattle.delay.proofs.fresh.Reads as delay-fresh-reads
 use Rattle.delay.proofs.reset.Kinds as delay-reset-kinds
@@ -240,14 +240,16 @@ samples-is-plus-zero κs a x y s t p q = p ∙ sym (q)
 pub samples-clear-xs : OneExit 1 samples-clear-kinds.ps samples-clear-kinds.r samples-clear-reads.Post (λ κs s. s .0 .now)
 samples-clear-xs κs a x y s t p q = p ∙ sym (q)
 
-pub samples-first-bad : OneResult 1 samples-first-bad-kinds.ps samples-first-bad-kinds.r samples-first-bad-reads.Post
-samples-first-bad κs a x y s t p q = p ∙ sym (q)
+-- ---- search
 
-pub samples-is-nothing : OneResult 0 samples-is-nothing-kinds.ps samples-is-nothing-kinds.r samples-is-nothing-reads.Post
-samples-is-nothing κs a x y s t p q = p ∙ sym (q)
+pub search-first-bad : OneResult 1 search-first-bad-kinds.ps search-first-bad-kinds.r search-first-bad-reads.Post
+search-first-bad κs a x y s t p q = p ∙ sym (q)
 
-pub samples-all-finite : OneResult 1 samples-all-finite-kinds.ps samples-all-finite-kinds.r samples-all-finite-reads.Post
-samples-all-finite κs a x y s t p q = p ∙ sym (q)
+pub search-is-nothing : OneResult 0 search-is-nothing-kinds.ps search-is-nothing-kinds.r search-is-nothing-reads.Post
+search-is-nothing κs a x y s t p q = p ∙ sym (q)
+
+pub search-all-finite : OneResult 1 search-all-finite-kinds.ps search-all-finite-kinds.r search-all-finite-reads.Post
+search-all-finite κs a x y s t p q = p ∙ sym (q)
 
 -- ---- delay
 
@@ -323,6 +325,8 @@ hadamard-mix-sample κs a x y s t p q = p .0 ∙ sym (q .0)
 
 pub hadamard-mix-sample-y : OneExit 2 hadamard-mix-sample-kinds.ps hadamard-mix-sample-kinds.r hadamard-mix-sample-reads.Post (λ κs s. s .1 .0 .now)
 hadamard-mix-sample-y κs a x y s t p q = (rw (p .0) at (p .1)) ∙ sym (rw (q .0) at (q .1))
+
+-- ---- mixer
 
 pub mixer-mix-rows : OneResult 1 mixer-mix-rows-kinds.ps mixer-mix-rows-kinds.r mixer-mix-rows-reads.Post
 mixer-mix-rows κs a x y s t p q = p .0 ∙ sym (q .0)
@@ -436,7 +440,7 @@ wire-decode-out κs a x y s t p q = p ∙ sym (q)
 pub wire-encode-out : OneExit 2 wire-encode-kinds.ps wire-encode-kinds.r wire-encode-reads.Post (λ κs s. s .1 .0 .now)
 wire-encode-out κs a x y s t p q = p ∙ sym (q)
 
--- ---- unit
+-- ---- judges
 
 pub judges-judge : OneResult 0 judges-judge-kinds.ps judges-judge-kinds.r judges-judge-reads.Post
 judges-judge κs a x y s t p q = p ∙ sym (q)
@@ -456,6 +460,8 @@ judges-judge-apply κs a x y s t p q = p ∙ sym (q)
 pub judges-judge-given : OneResult 2 judges-judge-given-kinds.ps judges-judge-given-kinds.r judges-judge-given-reads.Post
 judges-judge-given κs a x y s t p q = p ∙ sym (q)
 
+-- ---- unit
+
 pub unit-room-ok : OneResult 0 unit-room-ok-kinds.ps unit-room-ok-kinds.r unit-room-ok-reads.Post
 unit-room-ok κs a x y s t p q = p ∙ sym (q)
 
@@ -473,6 +479,8 @@ unit-work-ok κs a x y s t p q = p ∙ sym (q)
 
 pub unit-lent-ok : OneResult 0 unit-lent-ok-kinds.ps unit-lent-ok-kinds.r unit-lent-ok-reads.Post
 unit-lent-ok κs a x y s t p q = p ∙ sym (q)
+
+-- ---- judges
 
 pub judges-or-else : OneResult 0 judges-or-else-kinds.ps judges-or-else-kinds.r judges-or-else-reads.Post
 judges-or-else κs a x y s t p q = p ∙ sym (q)
@@ -522,10 +530,12 @@ rows-make-output κs a x y s t p q = p .0 ∙ sym (q .0)
 pub rows-make-output-work : OneExit 1 rows-make-output-kinds.ps rows-make-output-kinds.r rows-make-output-reads.Post (λ κs s. s .1 .1 .1 .0 .now)
 rows-make-output-work κs a x y s t p q = p .1 ∙ sym (q .1)
 
--- ---- lines
+-- ---- filters
 
 pub filters-filters-of : OneResult 1 filters-filters-of-kinds.ps filters-filters-of-kinds.r filters-filters-of-reads.Post
 filters-filters-of κs a x y s t p q = p ∙ sym (q)
+
+-- ---- lines
 
 pub lines-run-frame : OneResult 3 lines-run-frame-kinds.ps lines-run-frame-kinds.r lines-run-frame-reads.Post
 lines-run-frame κs a x y s t p q = p .0 ∙ sym (q .0)
@@ -551,10 +561,12 @@ lines-close-frame-work κs a x y s t p q = p .1 .1 .0 ∙ sym (q .1 .1 .0)
 pub lines-close-frame-output : OneExit 3 lines-close-frame-kinds.ps lines-close-frame-kinds.r lines-close-frame-reads.Post (λ κs s. s .1 .1 .1 .1 .1 .1 .0 .now)
 lines-close-frame-output κs a x y s t p q = p .1 .1 .1 ∙ sym (q .1 .1 .1)
 
+-- ---- reads
+
 pub reads-read-line-work : OneExit 2 reads-read-line-kinds.ps reads-read-line-kinds.r reads-read-line-reads.Post (λ κs s. s .1 .1 .1 .1 .0 .now)
 reads-read-line-work κs a x y s t p q = p ∙ sym (q)
 
--- ---- reverb
+-- ---- silence
 
 pub silence-fresh : OneResult 1 silence-fresh-kinds.ps silence-fresh-kinds.r silence-fresh-reads.Post
 silence-fresh κs a x y s t p q = p .0 ∙ sym (q .0)
@@ -567,6 +579,8 @@ silence-reset κs a x y s t p q = p .0 ∙ sym (q .0)
 
 pub silence-reset-store : OneExit 1 silence-reset-kinds.ps silence-reset-kinds.r silence-reset-reads.Post (λ κs s. s .1 .0 .now)
 silence-reset-store κs a x y s t p q = p .1 ∙ sym (q .1)
+
+-- ---- reverb
 
 pub reverb-apply : OneResult 5 reverb-apply-kinds.ps reverb-apply-kinds.r reverb-apply-reads.Post
 reverb-apply κs a x y s t p q = p .0 ∙ sym (q .0)
@@ -591,6 +605,8 @@ reverb-tail-work κs a x y s t p q = p .1 .1 .0 ∙ sym (q .1 .1 .0)
 
 pub reverb-tail-output : OneExit 3 reverb-tail-kinds.ps reverb-tail-kinds.r reverb-tail-reads.Post (λ κs s. s .1 .1 .1 .0 .now)
 reverb-tail-output κs a x y s t p q = p .1 .1 .1 ∙ sym (q .1 .1 .1)
+
+-- ---- silence
 
 pub silence-quiet : OneResult 0 silence-quiet-kinds.ps silence-quiet-kinds.r silence-quiet-reads.Post
 silence-quiet κs a x y s t p q = p ∙ sym (q)
@@ -624,7 +640,7 @@ turns-judge-close κs a x y s t p q = p ∙ sym (q)
 pub turns-judge-abandon : OneResult 0 turns-judge-abandon-kinds.ps turns-judge-abandon-kinds.r turns-judge-abandon-reads.Post
 turns-judge-abandon κs a x y s t p q = p ∙ sym (q)
 
--- ---- jobs
+-- ---- closing
 
 pub closing-close : OneResult 3 closing-close-kinds.ps closing-close-kinds.r closing-close-reads.Post
 closing-close κs a x y s t p q = p .0 ∙ sym (q .0)
@@ -644,6 +660,8 @@ closing-abandon κs a x y s t p q = p .0 ∙ sym (q .0)
 pub closing-abandon-work : OneExit 1 closing-abandon-kinds.ps closing-abandon-kinds.r closing-abandon-reads.Post (λ κs s. s .1 .0 .now)
 closing-abandon-work κs a x y s t p q = p .1 ∙ sym (q .1)
 
+-- ---- opening
+
 pub opening-open-apply : OneResult 4 opening-open-apply-kinds.ps opening-open-apply-kinds.r opening-open-apply-reads.Post
 opening-open-apply κs a x y s t p q = p .0 ∙ sym (q .0)
 
@@ -655,6 +673,8 @@ opening-open-tail κs a x y s t p q = p .0 ∙ sym (q .0)
 
 pub opening-open-tail-work : OneExit 2 opening-open-tail-kinds.ps opening-open-tail-kinds.r opening-open-tail-reads.Post (λ κs s. s .1 .1 .0 .now)
 opening-open-tail-work κs a x y s t p q = p .1 ∙ sym (q .1)
+
+-- ---- jobs
 
 pub jobs-job-read : OneResult 2 jobs-job-read-kinds.ps jobs-job-read-kinds.r jobs-job-read-reads.Post
 jobs-job-read κs a x y s t p q = p .0 ∙ sym (q .0)

@@ -10,9 +10,9 @@ use Rattle.samples.specs.declared.Answer.the-variants.{Accepted, NotFinite}
 use Rattle.samples.specs.Answers.{accept}
 use Rattle.samples.specs.Binary32.{+0, finite}
 use Rattle.samples.specs.Lists.{allFrom}
-use Rattle.samples.specs.Search.{allFinite}
+use Rattle.search.specs.Search.{allFinite}
 use Rattle.samples.proofs.Laws.{split-and, join-and, needed}
-use Rattle.samples.proofs.Finite.{finite-all, finite-append, finite-zeros, finite-cut}
+use Rattle.search.proofs.Finite.{finite-all, finite-append, finite-zeros, finite-cut}
 use Rattle.delay.specs.declared.Cursors.{Cursors}
 use Rattle.delay.specs.Calls.{both}
 use Rattle.delay.specs.Ring.{write}

@@ -102,6 +102,8 @@ pub hadamard-mix-sample-y : Unchanged 2 hadamard-mix-sample-kinds.ps hadamard-mi
 hadamard-mix-sample-y κs a x s p h =
     kept (x) (x) (mixed 16 quarter (a .0 .now)) (a .1 .0 .now) (p .1) refl h
 
+-- ---- mixer
+
 pub mixer-mix-rows-rows : Unchanged 1 mixer-mix-rows-kinds.ps mixer-mix-rows-kinds.r mixer-mix-rows-reads.Post (λ κs x. x) (λ κs x s. s .1 .1 .0 .now) (λ κs a. a .1 .1 .0 .now)
 mixer-mix-rows-rows κs a x s p h =
     kept (x) (x) (rowsMixed (a .0) (a .1 .0) (a .1 .1 .0 .now)) (a .1 .1 .0 .now) (p .1) refl h

@@ -9,11 +9,11 @@ use lib.IntN.{ℤ, pos}
 use lib.ListN.{length, replicate}
 use Rattle.samples.specs.declared.Answer.{Answer}
 use Rattle.samples.specs.declared.Answer.the-variants.{Accepted, BadState, BadLength, BadIndex, OutOfTurn, BadTime, BadCoefficient, NotFinite}
-use Rattle.samples.specs.declared.Found.{Found}
-use Rattle.samples.specs.declared.Found.the-variants.{At, Nothing}
+use Rattle.search.specs.declared.Found.{Found}
+use Rattle.search.specs.declared.Found.the-variants.{At, Nothing}
 use Rattle.samples.specs.Answers.{numberOf, accept, accepted, need, orElse}
 use Rattle.samples.specs.Binary32.{+0}
-use Rattle.samples.specs.Search.{firstBad, allFinite}
+use Rattle.search.specs.Search.{firstBad, allFinite}
 use Rattle.samples.proofs.Laws.{accept-no, accept-yes}
 use Rattle.delay.proofs.Laws.{accept-either}
 use Rattle.bands.specs.declared.Times.{Times}

@@ -5,7 +5,7 @@ use mathlib.Core.Bool.{true, cond}
 use mathlib.Core.List.{List}
 use lib.ListN.{length}
 use Rattle.samples.specs.declared.Answer.the-variants.{Accepted}
-use Rattle.samples.specs.Search.{allFinite}
+use Rattle.search.specs.Search.{allFinite}
 use Rattle.iir.specs.declared.Filter.{Filter}
 use Rattle.unit.specs.Hall.{Hall}
 use Rattle.unit.specs.Model.{Model}

@@ -9,7 +9,7 @@ use Rattle.samples.specs.declared.Answer.{Answer}
 use Rattle.samples.specs.declared.Answer.the-variants.{Accepted, NotFinite}
 use Rattle.samples.specs.Answers.{need}
 use Rattle.samples.specs.Lists.{allFrom}
-use Rattle.samples.specs.Search.{allFinite}
+use Rattle.search.specs.Search.{allFinite}
 use Rattle.delay.specs.declared.Cursors.{Cursors}
 use Rattle.delay.specs.Calls.{both}
 use Rattle.delay.specs.Ring.{write}

@@ -7,10 +7,10 @@ use lib.Ieee.{Float}
 use lib.ListN.{length}
 use Rattle.samples.specs.declared.Answer.{Answer}
 use Rattle.samples.specs.declared.Answer.the-variants.{Accepted, BadState, BadSize, BadLength, BadIndex, OutOfTurn, BadTime, BadCoefficient, BadSample}
-use Rattle.samples.specs.declared.Found.{Found}
-use Rattle.samples.specs.declared.Found.the-variants.{At, Nothing}
+use Rattle.search.specs.declared.Found.{Found}
+use Rattle.search.specs.declared.Found.the-variants.{At, Nothing}
 use Rattle.samples.specs.Answers.{need, orElse}
-use Rattle.samples.specs.Search.{firstBad, allFinite}
+use Rattle.search.specs.Search.{firstBad, allFinite}
 use Rattle.samples.specs.Sizes.{rateOk, frameOk}
 use Rattle.bands.specs.declared.Times.{Times}
 use Rattle.bands.specs.Times.{timesOk}

@@ -4,14 +4,14 @@
 use bands::Times;
 use bands::times_ok;
 use samples::Answer;
-use samples::Found;
-use samples::all_finite;
 use samples::and;
-use samples::first_bad;
 use samples::frame_ok;
 use samples::is_accepted;
 use samples::need;
 use samples::rate_ok;
+use search::Found;
+use search::all_finite;
+use search::first_bad;
 use unit::State;
 use unit::in_range;
 use unit::lent_ok;

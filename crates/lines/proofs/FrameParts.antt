@@ -8,8 +8,8 @@ use lib.Ieee.{Float}
 use lib.ListN.{length, take, drop, replicate, drop-of-length-le}
 use Rattle.samples.specs.Binary32.{+0}
 use lib.Seq.{take-at, drop-at, drop-drop, length-take-le}
-use Rattle.samples.specs.Search.{allFinite}
-use Rattle.samples.proofs.Finite.{finite-append}
+use Rattle.search.specs.Search.{allFinite}
+use Rattle.search.proofs.Finite.{finite-append}
 use Rattle.iir.specs.declared.Filter.{Filter}
 use Rattle.frame.specs.Frame.{Frame, newFilters}
 use Rattle.frame.specs.Settle.{filtersFinite, frameFinite, putRows}

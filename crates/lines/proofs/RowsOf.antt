@@ -5,8 +5,8 @@ use mathlib.Core.List.{List, _++_}
 use Prim.Native.Nat.{ℕ, _+_, _*_}
 use lib.Ieee.{Float}
 use lib.ListN.{take, drop}
-use Rattle.samples.specs.Search.{allFinite}
-use Rattle.samples.proofs.Finite.{finite-append}
+use Rattle.search.specs.Search.{allFinite}
+use Rattle.search.proofs.Finite.{finite-append}
 use Rattle.delay.specs.declared.Cursors.{Cursors}
 use Rattle.iir.specs.declared.Filter.{Filter}
 use Rattle.unit.specs.Model.{wall}

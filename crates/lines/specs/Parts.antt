@@ -1,7 +1,7 @@
 -- What is judged of the rows of a frame in the work memory.
 use mathlib.Core.Bool.{Bool, _&&_}
 use mathlib.Core.List.{List}
-use Rattle.samples.specs.Search.{allFinite}
+use Rattle.search.specs.Search.{allFinite}
 use Rattle.iir.specs.declared.Filter.{Filter}
 use Rattle.frame.specs.Settle.{filtersFinite}
 use Rattle.rows.specs.Rows.{Rows}

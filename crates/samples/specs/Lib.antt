@@ -1,5 +1,4 @@
 pub mod Binary32
 pub mod Answers
 pub mod Lists
-pub mod Search
 pub mod Sizes

@@ -12,7 +12,7 @@ use Rattle.samples.specs.declared.Answer.{Answer}
 use Rattle.samples.specs.declared.Answer.the-variants.{Accepted}
 use Rattle.samples.specs.Answers.{orElse}
 use Rattle.samples.specs.Binary32.{finite}
-use Rattle.samples.specs.Search.{firstBad, allFinite}
+use Rattle.search.specs.Search.{firstBad, allFinite}
 use Rattle.samples.proofs.Turns.{lt-or-ge}
 use Rattle.bands.specs.Times.{timeOk, timesOk}
 use Rattle.unit.specs.Hall.{Hall}

@@ -6,7 +6,7 @@ use lib.Dec.{ltb}
 use lib.Ieee.{Float, binary32, ofBits}
 use Rattle.samples.specs.declared.Answer.the-variants.{Accepted}
 use Rattle.samples.specs.Binary32.{finite}
-use Rattle.samples.specs.Search.{firstBad}
+use Rattle.search.specs.Search.{firstBad}
 use Rattle.unit.specs.Hall.{Hall, ofState}
 use Rattle.unit.specs.Model.{wall}
 use Rattle.unit.specs.Fresh.{freshHall}

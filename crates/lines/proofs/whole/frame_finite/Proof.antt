@@ -4,7 +4,7 @@ use mathlib.Core.Path.{ap, _∙_}
 use mathlib.Core.Bool.{_&&_}
 use Prim.Native.Nat.{_+_, _*_}
 use denote.Ref.{now}
-use Rattle.samples.specs.Search.{allFinite}
+use Rattle.search.specs.Search.{allFinite}
 use Rattle.lines.proofs.Parts.{end-is}
 use Rattle.lines.proofs.whole.frame_finite.Statement.{statement}
 use Rattle.lines.proofs.whole.frame_finite.Tie as tie

@@ -1,4 +1,4 @@
--- `samples::row_finite` meets its contract. The invariant: the verdict is the test of the first i samples. Assumes nothing.
+-- `search::row_finite` meets its contract. The invariant: the verdict is the test of the first i samples. Assumes nothing.
 use borrow.Author.Needs.{needs}
 use native.Mathlib.Omega.{arith}
 use mathlib.Core.Path.{_≡_, sym, _∙_}
@@ -9,12 +9,12 @@ use lib.Ieee.{nan}
 use denote.Ref.{now}
 use Prim.Native.Nat.{_≤_, _-_}
 use lib.ListN.{length, take}
 use Rattle.samples.specs.Binary32.{finite}
 use Rattle.samples.specs.Lists.{allFrom}
-use Rattle.samples.proofs.Finite.{finite-all}
+use Rattle.search.proofs.Finite.{finite-all}
 use Rattle.samples.proofs.Laws.{all-more, all-end}
-use Rattle.samples.proofs.row_finite.Statement.{statement}
-use Rattle.samples.proofs.row_finite.Tie as tie
+use Rattle.search.proofs.row_finite.Statement.{statement}
+use Rattle.search.proofs.row_finite.Tie as tie
 
 -- a turn: a sample that is not finite settles the verdict, and any other leaves it
 settled : (ok b r : Bool) → b ≡ false → r ≡ false → r ≡ (ok && b)

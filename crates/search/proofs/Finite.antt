@@ -6,12 +6,12 @@ use Prim.Native.Nat.{ℕ, zero, suc, _+_}
 use native.Mathlib.Nat.{add-zero, add-suc, suc-add}
 use lib.Ieee.{Float, ofBits}
 use lib.ListN.{take, drop, replicate, take-append-drop}
 use Rattle.samples.specs.Binary32.{+0, finite}
 use Rattle.samples.specs.Lists.{allFrom}
-use Rattle.samples.specs.Search.{firstFrom, nothing, allFinite}
-use Rattle.samples.specs.declared.Found.{Found}
-use Rattle.samples.specs.declared.Found.the-variants.{At}
+use Rattle.search.specs.Search.{firstFrom, nothing, allFinite}
+use Rattle.search.specs.declared.Found.{Found}
+use Rattle.search.specs.declared.Found.the-variants.{At}
 use Rattle.samples.proofs.Laws.{and-assoc, split-and}
 
 none-else : (b : Bool) (f : Found) (k : ℕ) → nothing (cond b f (At k)) ≡ (b && nothing f)
 none-else true f k = refl

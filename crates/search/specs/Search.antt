@@ -3,9 +3,9 @@ use mathlib.Core.Bool.{Bool, true, false, cond}
 use mathlib.Core.List.{List, [], _∷_}
 use Prim.Native.Nat.{ℕ, suc}
 use lib.Ieee.{Float}
 use Rattle.samples.specs.Binary32.{finite}
-use Rattle.samples.specs.declared.Found.{Found}
-use Rattle.samples.specs.declared.Found.the-variants.{At, Nothing}
+use Rattle.search.specs.declared.Found.{Found}
+use Rattle.search.specs.declared.Found.the-variants.{At, Nothing}
 
 -- the first sample that is not finite, the places counted from k
 abbrev pub firstFrom : ℕ → List Float → Found

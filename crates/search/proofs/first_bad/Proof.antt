@@ -1,4 +1,4 @@
--- `samples::first_bad` meets its contract. The invariant of both loops: nothing is found yet, and the search from i on finds what the
+-- `search::first_bad` meets its contract. The invariant of both loops: nothing is found yet, and the search from i on finds what the
 -- search from the start finds; a row that is finite is passed over. Assumes nothing.
 use borrow.Author.Needs.{needs}
 use borrow.Author.Tests.{not-true, not-false}
@@ -11,12 +11,12 @@ use native.Mathlib.Numerals.{add-one}
 use lib.ListN.{length, getD, take, drop, drop-of-length-le}
 use lib.Seq.{drop-cons, drop-drop}
 use lib.Ieee.{Float, nan}
 use Rattle.samples.specs.Binary32.{finite}
-use Rattle.samples.specs.Search.{firstFrom, firstBad, allFinite}
-use Rattle.samples.specs.declared.Found.the-variants.{At, Nothing}
-use Rattle.samples.proofs.Finite.{finite-skip}
-use Rattle.samples.proofs.first_bad.Statement.{statement}
-use Rattle.samples.proofs.first_bad.Tie as tie
+use Rattle.search.specs.Search.{firstFrom, firstBad, allFinite}
+use Rattle.search.specs.declared.Found.the-variants.{At, Nothing}
+use Rattle.search.proofs.Finite.{finite-skip}
+use Rattle.search.proofs.first_bad.Statement.{statement}
+use Rattle.search.proofs.first_bad.Tie as tie
 
 module _ (xs : List Float) (i : ℕ) (h : i < length xs) (so-far : firstFrom i (drop i xs) ≡ firstBad xs) where
   bad-here : finite (getD xs i nan) ≡ false → At i ≡ firstBad xs
