@@ -440,26 +440,6 @@ wire-decode-out κs a x y s t p q = p ∙ sym (q)
 pub wire-encode-out : OneExit 2 wire-encode-kinds.ps wire-encode-kinds.r wire-encode-reads.Post (λ κs s. s .1 .0 .now)
 wire-encode-out κs a x y s t p q = p ∙ sym (q)
 
--- ---- judges
-
-pub judges-judge : OneResult 0 judges-judge-kinds.ps judges-judge-kinds.r judges-judge-reads.Post
-judges-judge κs a x y s t p q = p ∙ sym (q)
-
-pub judges-judge-fresh : OneResult 0 judges-judge-fresh-kinds.ps judges-judge-fresh-kinds.r judges-judge-fresh-reads.Post
-judges-judge-fresh κs a x y s t p q = p ∙ sym (q)
-
-pub judges-judge-reset : OneResult 0 judges-judge-reset-kinds.ps judges-judge-reset-kinds.r judges-judge-reset-reads.Post
-judges-judge-reset κs a x y s t p q = p ∙ sym (q)
-
-pub judges-judge-tail : OneResult 0 judges-judge-tail-kinds.ps judges-judge-tail-kinds.r judges-judge-tail-reads.Post
-judges-judge-tail κs a x y s t p q = p ∙ sym (q)
-
-pub judges-judge-apply : OneResult 2 judges-judge-apply-kinds.ps judges-judge-apply-kinds.r judges-judge-apply-reads.Post
-judges-judge-apply κs a x y s t p q = p ∙ sym (q)
-
-pub judges-judge-given : OneResult 2 judges-judge-given-kinds.ps judges-judge-given-kinds.r judges-judge-given-reads.Post
-judges-judge-given κs a x y s t p q = p ∙ sym (q)
-
 -- ---- unit
 
 pub unit-room-ok : OneResult 0 unit-room-ok-kinds.ps unit-room-ok-kinds.r unit-room-ok-reads.Post
@@ -482,8 +462,52 @@ unit-lent-ok κs a x y s t p q = p ∙ sym (q)
 
 -- ---- judges
 
+pub judges-judge : OneResult 0 judges-judge-kinds.ps judges-judge-kinds.r judges-judge-reads.Post
+judges-judge κs a x y s t p q = p ∙ sym (q)
+
+pub judges-judge-fresh : OneResult 0 judges-judge-fresh-kinds.ps judges-judge-fresh-kinds.r judges-judge-fresh-reads.Post
+judges-judge-fresh κs a x y s t p q = p ∙ sym (q)
+
+pub judges-judge-reset : OneResult 0 judges-judge-reset-kinds.ps judges-judge-reset-kinds.r judges-judge-reset-reads.Post
+judges-judge-reset κs a x y s t p q = p ∙ sym (q)
+
+pub judges-judge-tail : OneResult 0 judges-judge-tail-kinds.ps judges-judge-tail-kinds.r judges-judge-tail-reads.Post
+judges-judge-tail κs a x y s t p q = p ∙ sym (q)
+
+pub judges-judge-apply : OneResult 2 judges-judge-apply-kinds.ps judges-judge-apply-kinds.r judges-judge-apply-reads.Post
+judges-judge-apply κs a x y s t p q = p ∙ sym (q)
+
+pub judges-judge-given : OneResult 2 judges-judge-given-kinds.ps judges-judge-given-kinds.r judges-judge-given-reads.Post
+judges-judge-given κs a x y s t p q = p ∙ sym (q)
+
 pub judges-or-else : OneResult 0 judges-or-else-kinds.ps judges-or-else-kinds.r judges-or-else-reads.Post
 judges-or-else κs a x y s t p q = p ∙ sym (q)
+
+-- ---- turns
+
+pub turns-judge-open-apply : OneResult 2 turns-judge-open-apply-kinds.ps turns-judge-open-apply-kinds.r turns-judge-open-apply-reads.Post
+turns-judge-open-apply κs a x y s t p q = p ∙ sym (q)
+
+pub turns-judge-open-tail : OneResult 0 turns-judge-open-tail-kinds.ps turns-judge-open-tail-kinds.r turns-judge-open-tail-reads.Post
+turns-judge-open-tail κs a x y s t p q = p ∙ sym (q)
+
+pub turns-judge-read : OneResult 0 turns-judge-read-kinds.ps turns-judge-read-kinds.r turns-judge-read-reads.Post
+turns-judge-read κs a x y s t p q = p ∙ sym (q)
+
+pub turns-judge-mix : OneResult 0 turns-judge-mix-kinds.ps turns-judge-mix-kinds.r turns-judge-mix-reads.Post
+turns-judge-mix κs a x y s t p q = p ∙ sym (q)
+
+pub turns-judge-line : OneResult 0 turns-judge-line-kinds.ps turns-judge-line-kinds.r turns-judge-line-reads.Post
+turns-judge-line κs a x y s t p q = p ∙ sym (q)
+
+pub turns-judge-output : OneResult 0 turns-judge-output-kinds.ps turns-judge-output-kinds.r turns-judge-output-reads.Post
+turns-judge-output κs a x y s t p q = p ∙ sym (q)
+
+pub turns-judge-close : OneResult 0 turns-judge-close-kinds.ps turns-judge-close-kinds.r turns-judge-close-reads.Post
+turns-judge-close κs a x y s t p q = p ∙ sym (q)
+
+pub turns-judge-abandon : OneResult 0 turns-judge-abandon-kinds.ps turns-judge-abandon-kinds.r turns-judge-abandon-reads.Post
+turns-judge-abandon κs a x y s t p q = p ∙ sym (q)
 
 -- ---- allpass
 
@@ -535,6 +559,11 @@ rows-make-output-work κs a x y s t p q = p .1 ∙ sym (q .1)
 pub filters-filters-of : OneResult 1 filters-filters-of-kinds.ps filters-filters-of-kinds.r filters-filters-of-reads.Post
 filters-filters-of κs a x y s t p q = p ∙ sym (q)
 
+-- ---- reads
+
+pub reads-read-line-work : OneExit 2 reads-read-line-kinds.ps reads-read-line-kinds.r reads-read-line-reads.Post (λ κs s. s .1 .1 .1 .1 .0 .now)
+reads-read-line-work κs a x y s t p q = p ∙ sym (q)
+
 -- ---- lines
 
 pub lines-run-frame : OneResult 3 lines-run-frame-kinds.ps lines-run-frame-kinds.r lines-run-frame-reads.Post
@@ -561,11 +590,6 @@ lines-close-frame-work κs a x y s t p q = p .1 .1 .0 ∙ sym (q .1 .1 .0)
 pub lines-close-frame-output : OneExit 3 lines-close-frame-kinds.ps lines-close-frame-kinds.r lines-close-frame-reads.Post (λ κs s. s .1 .1 .1 .1 .1 .1 .0 .now)
 lines-close-frame-output κs a x y s t p q = p .1 .1 .1 ∙ sym (q .1 .1 .1)
 
--- ---- reads
-
-pub reads-read-line-work : OneExit 2 reads-read-line-kinds.ps reads-read-line-kinds.r reads-read-line-reads.Post (λ κs s. s .1 .1 .1 .1 .0 .now)
-reads-read-line-work κs a x y s t p q = p ∙ sym (q)
-
 -- ---- silence
 
 pub silence-fresh : OneResult 1 silence-fresh-kinds.ps silence-fresh-kinds.r silence-fresh-reads.Post
@@ -579,6 +603,12 @@ silence-reset κs a x y s t p q = p .0 ∙ sym (q .0)
 
 pub silence-reset-store : OneExit 1 silence-reset-kinds.ps silence-reset-kinds.r silence-reset-reads.Post (λ κs s. s .1 .0 .now)
 silence-reset-store κs a x y s t p q = p .1 ∙ sym (q .1)
+
+pub silence-quiet : OneResult 0 silence-quiet-kinds.ps silence-quiet-kinds.r silence-quiet-reads.Post
+silence-quiet κs a x y s t p q = p ∙ sym (q)
+
+pub silence-fallen : OneResult 0 silence-fallen-kinds.ps silence-fallen-kinds.r silence-fallen-reads.Post
+silence-fallen κs a x y s t p q = p ∙ sym (q)
 
 -- ---- reverb
 
@@ -605,60 +635,6 @@ reverb-tail-work κs a x y s t p q = p .1 .1 .0 ∙ sym (q .1 .1 .0)
 
 pub reverb-tail-output : OneExit 3 reverb-tail-kinds.ps reverb-tail-kinds.r reverb-tail-reads.Post (λ κs s. s .1 .1 .1 .0 .now)
 reverb-tail-output κs a x y s t p q = p .1 .1 .1 ∙ sym (q .1 .1 .1)
-
--- ---- silence
-
-pub silence-quiet : OneResult 0 silence-quiet-kinds.ps silence-quiet-kinds.r silence-quiet-reads.Post
-silence-quiet κs a x y s t p q = p ∙ sym (q)
-
-pub silence-fallen : OneResult 0 silence-fallen-kinds.ps silence-fallen-kinds.r silence-fallen-reads.Post
-silence-fallen κs a x y s t p q = p ∙ sym (q)
-
--- ---- turns
-
-pub turns-judge-open-apply : OneResult 2 turns-judge-open-apply-kinds.ps turns-judge-open-apply-kinds.r turns-judge-open-apply-reads.Post
-turns-judge-open-apply κs a x y s t p q = p ∙ sym (q)
-
-pub turns-judge-open-tail : OneResult 0 turns-judge-open-tail-kinds.ps turns-judge-open-tail-kinds.r turns-judge-open-tail-reads.Post
-turns-judge-open-tail κs a x y s t p q = p ∙ sym (q)
-
-pub turns-judge-read : OneResult 0 turns-judge-read-kinds.ps turns-judge-read-kinds.r turns-judge-read-reads.Post
-turns-judge-read κs a x y s t p q = p ∙ sym (q)
-
-pub turns-judge-mix : OneResult 0 turns-judge-mix-kinds.ps turns-judge-mix-kinds.r turns-judge-mix-reads.Post
-turns-judge-mix κs a x y s t p q = p ∙ sym (q)
-
-pub turns-judge-line : OneResult 0 turns-judge-line-kinds.ps turns-judge-line-kinds.r turns-judge-line-reads.Post
-turns-judge-line κs a x y s t p q = p ∙ sym (q)
-
-pub turns-judge-output : OneResult 0 turns-judge-output-kinds.ps turns-judge-output-kinds.r turns-judge-output-reads.Post
-turns-judge-output κs a x y s t p q = p ∙ sym (q)
-
-pub turns-judge-close : OneResult 0 turns-judge-close-kinds.ps turns-judge-close-kinds.r turns-judge-close-reads.Post
-turns-judge-close κs a x y s t p q = p ∙ sym (q)
-
-pub turns-judge-abandon : OneResult 0 turns-judge-abandon-kinds.ps turns-judge-abandon-kinds.r turns-judge-abandon-reads.Post
-turns-judge-abandon κs a x y s t p q = p ∙ sym (q)
-
--- ---- closing
-
-pub closing-close : OneResult 3 closing-close-kinds.ps closing-close-kinds.r closing-close-reads.Post
-closing-close κs a x y s t p q = p .0 ∙ sym (q .0)
-
-pub closing-close-store : OneExit 3 closing-close-kinds.ps closing-close-kinds.r closing-close-reads.Post (λ κs s. s .1 .0 .now)
-closing-close-store κs a x y s t p q = p .1 .0 ∙ sym (q .1 .0)
-
-pub closing-close-work : OneExit 3 closing-close-kinds.ps closing-close-kinds.r closing-close-reads.Post (λ κs s. s .1 .1 .0 .now)
-closing-close-work κs a x y s t p q = p .1 .1 .0 ∙ sym (q .1 .1 .0)
-
-pub closing-close-output : OneExit 3 closing-close-kinds.ps closing-close-kinds.r closing-close-reads.Post (λ κs s. s .1 .1 .1 .0 .now)
-closing-close-output κs a x y s t p q = p .1 .1 .1 ∙ sym (q .1 .1 .1)
-
-pub closing-abandon : OneResult 1 closing-abandon-kinds.ps closing-abandon-kinds.r closing-abandon-reads.Post
-closing-abandon κs a x y s t p q = p .0 ∙ sym (q .0)
-
-pub closing-abandon-work : OneExit 1 closing-abandon-kinds.ps closing-abandon-kinds.r closing-abandon-reads.Post (λ κs s. s .1 .0 .now)
-closing-abandon-work κs a x y s t p q = p .1 ∙ sym (q .1)
 
 -- ---- opening
 
@@ -699,3 +675,23 @@ jobs-job-output κs a x y s t p q = p .0 ∙ sym (q .0)
 
 pub jobs-job-output-work : OneExit 1 jobs-job-output-kinds.ps jobs-job-output-kinds.r jobs-job-output-reads.Post (λ κs s. s .1 .0 .now)
 jobs-job-output-work κs a x y s t p q = p .1 ∙ sym (q .1)
+
+-- ---- closing
+
+pub closing-close : OneResult 3 closing-close-kinds.ps closing-close-kinds.r closing-close-reads.Post
+closing-close κs a x y s t p q = p .0 ∙ sym (q .0)
+
+pub closing-close-store : OneExit 3 closing-close-kinds.ps closing-close-kinds.r closing-close-reads.Post (λ κs s. s .1 .0 .now)
+closing-close-store κs a x y s t p q = p .1 .0 ∙ sym (q .1 .0)
+
+pub closing-close-work : OneExit 3 closing-close-kinds.ps closing-close-kinds.r closing-close-reads.Post (λ κs s. s .1 .1 .0 .now)
+closing-close-work κs a x y s t p q = p .1 .1 .0 ∙ sym (q .1 .1 .0)
+
+pub closing-close-output : OneExit 3 closing-close-kinds.ps closing-close-kinds.r closing-close-reads.Post (λ κs s. s .1 .1 .1 .0 .now)
+closing-close-output κs a x y s t p q = p .1 .1 .1 ∙ sym (q .1 .1 .1)
+
+pub closing-abandon : OneResult 1 closing-abandon-kinds.ps closing-abandon-kinds.r closing-abandon-reads.Post
+closing-abandon κs a x y s t p q = p .0 ∙ sym (q .0)
+
+pub closing-abandon-work : OneExit 1 closing-abandon-kinds.ps closing-abandon-kinds.r closing-abandon-reads.Post (λ κs s. s .1 .0 .now)
+closing-abandon-work κs a x y s t p q = p .1 ∙ sym (q .1)
