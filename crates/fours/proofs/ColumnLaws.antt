@@ -8,8 +8,8 @@ use lib.Ieee.{Float, nan}
 use lib.ListN.{length, getD, take, drop, set, length-take, length-drop, length-set}
 use lib.Seq.{drop-drop, take-set-le, take-set-lt, drop-set-lt, drop-set-add, getD-take, getD-drop}
 use Rattle.samples.specs.Lists.{row}
-use Rattle.fours.specs.declared.four.Four.{Four}
-use Rattle.fours.specs.Four.{at}
+use Rattle.lanes.specs.declared.four.Four.{Four}
+use Rattle.lanes.specs.Four.{at}
 use Rattle.fours.specs.Tile.{column, columnPut}
 
 -- a row is as long as the rows are, where all n of them are there

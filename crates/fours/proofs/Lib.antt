@@ -1,7 +1,4 @@
 pub mod ColumnLaws
-pub mod LaneLaws
 pub mod TileLaws
 pub mod TileTurns
 pub mod RowTurns
-pub mod BehindLaws
-pub mod BehindTurns

@@ -13,10 +13,10 @@ use Rattle.samples.proofs.Turns.{all-done, over-done, over-left}
 use Rattle.iir.specs.declared.Bands.{Bands}
 use Rattle.iir.specs.Runs.{bandsOut, bandsEnd}
 use Rattle.iir.proofs.Laws.{bands-length, bands-append, bands-end-append}
-use Rattle.fours.specs.declared.bank.Bank.{Bank}
+use Rattle.lanes.specs.declared.bank.Bank.{Bank}
+use Rattle.lanes.specs.Bank.{bandsAt}
 use Rattle.fours.specs.Lines.{linesOut, linesEnd}
-use Rattle.fours.specs.Bank.{bandsAt, lined}
-use Rattle.fours.specs.Tile.{Turned}
+use Rattle.fours.specs.Tile.{lined, Turned}
 use Rattle.fours.proofs.ColumnLaws.{row-long}
 
 -- ---- n rows, each the answer of its line, are the answer

@@ -7,8 +7,8 @@ use native.Mathlib.Omega.{arith}
 use lib.Ieee.{Float, nan}
 use lib.ListN.{length, getD, drop, set, length-drop, length-set}
 use lib.Seq.{drop-set-lt, drop-set-add, getD-drop, getD-set-same, getD-set-other}
-use Rattle.fours.specs.declared.four.Four.{Four}
-use Rattle.fours.specs.Four.{at}
+use Rattle.lanes.specs.declared.four.Four.{Four}
+use Rattle.lanes.specs.Four.{at}
 use Rattle.fours.specs.Tile.{tileColumn, tilePut, strand}
 
 pub strand-long : (k m : ℕ) (tile : List Float) → length (strand k m tile) ≡ m

@@ -12,14 +12,14 @@ use lib.Seq.{take-all, take-suc, take-suc-set, drop-cons, getD-take, getD-drop, 
 use Rattle.samples.specs.Lists.{over, row}
 use Rattle.samples.proofs.Turns.{front, stored, all-done}
 use Rattle.iir.specs.Runs.{bandsOut, bandsEnd}
-use Rattle.fours.specs.declared.four.Four.{Four}
-use Rattle.fours.specs.declared.bank.Bank.{Bank}
-use Rattle.fours.specs.Four.{at}
-use Rattle.fours.specs.Bank.{bandsAt, stepBank}
+use Rattle.lanes.specs.declared.four.Four.{Four}
+use Rattle.lanes.specs.declared.bank.Bank.{Bank}
+use Rattle.lanes.specs.Four.{at}
+use Rattle.lanes.specs.Bank.{bandsAt, stepBank}
+use Rattle.lanes.proofs.LaneLaws.{bank-out, bank-end}
 use Rattle.fours.specs.Tile.{column, columnPut, tileColumn, tilePut, strand, Filled, Stored, Played}
 use Rattle.fours.proofs.ColumnLaws.{row-long, column-at, put-length, row-put, rest-put}
 use Rattle.fours.proofs.TileLaws.{strand-long, tile-at, strand-put, put-long}
-use Rattle.fours.proofs.LaneLaws.{bank-out, bank-end}
 
 -- ---- the columns through the bands b
 

@@ -5,10 +5,11 @@ use mathlib.Core.List.{List, [], _∷_}
 use lib.Ieee.{Float, nan}
 use lib.ListN.{length, getD, take, drop, set}
 use Rattle.samples.specs.Lists.{over, row}
+use Rattle.iir.specs.declared.Bands.{Bands}
 use Rattle.iir.specs.Runs.{bandsOut, bandsEnd}
-use Rattle.fours.specs.declared.four.Four.{Four}
-use Rattle.fours.specs.declared.bank.Bank.{Bank}
-use Rattle.fours.specs.Bank.{bandsAt}
+use Rattle.lanes.specs.declared.four.Four.{Four}
+use Rattle.lanes.specs.declared.bank.Bank.{Bank}
+use Rattle.lanes.specs.Bank.{bandsAt}
 
 -- sample t of each of four rows of f samples, and the rows with others there
 unfoldable pub column : ℕ → ℕ → List Float → Four
@@ -34,6 +35,10 @@ strand k zero tile = []
 strand k (suc m) tile = getD tile k nan ∷ strand k m (drop 4 tile)
 
 -- ---- what is said of each of four lines
+
+-- the bands of the four lines in their order
+abbrev pub lined : (ℕ → Bands) → List Bands
+lined b = b 0 ∷ b 1 ∷ b 2 ∷ b 3 ∷ []
 
 -- the tile holds m samples of its row, from t on
 abbrev pub Filled : ℕ → ℕ → ℕ → List Float → List Float → Type 0

@@ -1,13 +1,13 @@
 // A tile: samples of four rows as columns, those of one time side by side, as the bands take them.
-use crate::bank::Bank;
-use crate::bank::run;
-use crate::four::Four;
+use lanes::Bank;
+use lanes::Four;
+use lanes::step_bank;
 ghost use mathlib.Core.Path.{_≡_};
 ghost use Prim.Native.Nat.{_+_, _*_, _<_, _≤_};
 ghost use lib.ListN.{length};
+ghost use Rattle.lanes.specs.Bank.{bandsAt, stepBank};
 ghost use Rattle.fours.specs.Lines.{linesOut, linesEnd};
-ghost use Rattle.fours.specs.Bank.{bandsAt, lined};
-ghost use Rattle.fours.specs.Tile.{column, columnPut, tileColumn, tilePut, Filled, Stored, Turned};
+ghost use Rattle.fours.specs.Tile.{column, columnPut, tileColumn, tilePut, lined, Filled, Stored, Played, Turned};
 
 // Sample t of each of four rows of f samples.
 fn row_column(f: usize, t: usize, rows: &[f32]) -> Four
@@ -40,7 +40,7 @@ fn put_column(f: usize, t: usize, y: Four, rows: &mut [f32])
 }
 
 // Column j of a tile.
-pub(crate) fn tile_column(j: usize, tile: &[f32]) -> Four
+fn tile_column(j: usize, tile: &[f32]) -> Four
     requires { ⌜ 4 * j + 3 < length (now tile) ⌝ }
     ensures { λ r. ⌜ r ≡ tileColumn j (now (tile .entry)) ⌝ }
 {
@@ -54,7 +54,7 @@ pub(crate) fn tile_column(j: usize, tile: &[f32]) -> Four
 }
 
 // Sets column j of a tile.
-pub(crate) fn set_column(j: usize, y: Four, tile: &mut [f32])
+fn set_column(j: usize, y: Four, tile: &mut [f32])
     requires { ⌜ 4 * j + 3 < length (now tile) ⌝ }
     ensures { λ _. ⌜ now (tile .exit) ≡ tilePut j y (now (tile .entry)) ⌝ }
 {
@@ -63,6 +63,30 @@ pub(crate) fn set_column(j: usize, y: Four, tile: &mut [f32])
     tile[at + 1] = y.v1;
     tile[at + 2] = y.v2;
     tile[at + 3] = y.v3;
+}
+
+// Column j of a tile through the bands, in place.
+fn turn(j: usize, g: Bank, tile: &mut [f32]) -> Bank
+    requires { ⌜ 4 * j + 3 < length (now tile) ⌝ }
+    ensures { λ r. ⌜ r ≡ stepBank g (tileColumn j (now (tile .entry))) ⌝ }
+    ensures { λ r. ⌜ now (tile .exit) ≡ tilePut j (r .l2 .y1) (now (tile .entry)) ⌝ }
+{
+    let h = step_bank(g, tile_column(j, tile));
+    let l = h.l2;
+    set_column(j, l.y1, tile);
+    h
+}
+
+// The first m columns of a tile through the bands, in place.
+fn run(m: usize, b: Bank, tile: &mut [f32]) -> Bank
+    requires { ⌜ 4 * m ≤ length (now tile) ⌝ }
+    ensures { λ r. ⌜ Played m b r (now (tile .entry)) (now (tile .exit)) ⌝ }
+{
+    let mut g = b;
+    for j in 0..m {
+        g = turn(j, g, tile);
+    }
+    g
 }
 
 // Fills m columns of a tile with the samples from t on of four rows of f samples.

@@ -1,7 +1,7 @@
 // Rows through the band filters of their lines.
-use fours::FourBands;
 use iir::Bands;
 use iir::Filter;
+use lanes::FourBands;
 ghost use mathlib.Core.Path.{_≡_};
 ghost use mathlib.Core.List.{_++_};
 ghost use Prim.Native.Nat.{_+_, _*_, _/_, _<_, _≤_};
@@ -44,7 +44,7 @@ pub(crate) fn three_at(k: usize, fs: [Filter; 51], row: &mut [f32]) -> [Filter; 
     ensures { λ r. ⌜ r ≡ over k (threeOf (bandsEnd (three k fs) (now (row .entry)))) fs ⌝ }
     ensures { λ _. ⌜ now (row .exit) ≡ bandsOut (three k fs) (now (row .entry)) ⌝ }
 {
-    let h = fours::one_line(three_of(k, fs), row);
+    let h = alone::one_line(three_of(k, fs), row);
     with_three(k, h, fs)
 }
 

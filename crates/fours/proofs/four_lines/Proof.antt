@@ -1,8 +1,18 @@
 -- `fours::four_lines` meets its contract. Assumes nothing.
-use Rattle.fours.proofs.LaneLaws.{bank-lines}
+use mathlib.Core.Path.{_≡_, refl}
+use Rattle.lanes.specs.declared.bank.FourBands.{FourBands}
+use Rattle.lanes.specs.Lanes.{packed, lane}
+use Rattle.lanes.specs.Bank.{bankOf, bandsAt}
+use Rattle.fours.specs.Lines.{lines}
+use Rattle.fours.specs.Tile.{lined}
 use borrow.Author.Needs.{needs}
 use Rattle.fours.proofs.four_lines.Statement.{statement}
 use Rattle.fours.proofs.four_lines.Tie as tie
+
+-- the bands of four lines, packed and looked up again
+bank-lines : (b : FourBands) → lined (λ k. bandsAt k (bankOf b)) ≡ lines b
+unfolding bankOf packed lane
+bank-lines b = refl
 
 by-band-requires : tie.Need-by-band-requires
 by-band-requires c κs = search needs

@@ -1,0 +1,15 @@
+-- `alone::line::stagger` meets its contract. Assumes nothing.
+use Rattle.alone.specs.Behind.{behind}
+use borrow.Author.Needs.{needs}
+use Rattle.alone.proofs.line.stagger.Statement.{statement}
+use Rattle.alone.proofs.line.stagger.Tie as tie
+
+step-requires : tie.Need-step-requires
+step-requires c κs = search needs
+
+returns : tie.Need-returns
+unfolding behind
+returns c = c .step .ensures
+
+pub stagger-spec : {M : Type 1} → statement M
+stagger-spec = tie.close (tie.spec step-requires returns)

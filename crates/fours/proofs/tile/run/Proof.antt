@@ -1,0 +1,54 @@
+-- `fours::tile::run` meets its contract. The invariant: each line's samples of the columns done, then its bands over those left, are the answer, and so of its bands.
+-- Assumes nothing.
+use borrow.Author.Needs.{needs}
+use Prim.Native.Nat.{_-_}
+use Rattle.fours.proofs.TileTurns.{Playing, none-played, one-played, all-played}
+use Rattle.fours.proofs.tile.run.Statement.{statement}
+use Rattle.fours.proofs.tile.run.Tie as tie
+
+abbrev Inv-loop : tie.InvT-loop
+Inv-loop m tile₀ g₀ j₀ tile g j = Playing m g₀ tile₀ j g tile
+
+abbrev μ-loop : tie.MeasureT-loop
+μ-loop m tile₀ g₀ j₀ tile g j = m - j
+
+loop-holds : tie.Need-loop-holds Inv-loop μ-loop
+loop-holds c = none-played _ _ _ (c .before .pre)
+
+turn-requires : tie.Need-turn-requires Inv-loop μ-loop
+turn-requires c κs = search needs
+
+add-j : tie.Need-add-j Inv-loop μ-loop
+add-j c = search needs
+
+loop-less : tie.Need-loop-less Inv-loop μ-loop
+loop-less c = search needs
+
+loop-again : tie.Need-loop-again Inv-loop μ-loop
+loop-again c =
+    let called = c .before .before in
+    let turn = called .before .before in
+    let l = turn .before .loop in
+    one-played _ _ _ (l .j) (l .g) (l .tile) (l .inv) _ _ (turn .loop-test .taken) (called .turn .ensures .0) (called .turn .ensures .1)
+
+same-length : tie.Need-same-length Inv-loop μ-loop
+same-length c = search needs
+
+returns : tie.Need-returns Inv-loop μ-loop
+returns c =
+    let l = c .before .loop in
+    all-played _ _ _ (l .j) (l .g) (l .tile) (l .inv) (c .loop-test .left)
+
+pub run-spec : {M : Type 1} → statement M
+run-spec =
+    tie.close
+    (tie.spec
+    Inv-loop
+    μ-loop
+    loop-holds
+    turn-requires
+    add-j
+    loop-less
+    loop-again
+    same-length
+    returns)
