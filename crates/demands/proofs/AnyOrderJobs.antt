@@ -22,7 +22,8 @@ use Rattle.frame.specs.Lines.{noFilter, three, threeOf, plus}
 use Rattle.frame.specs.Frame.{Frame, OutputRow, frameFrom, passesIn, lineRows, newFilters}
 use Rattle.turns.specs.Marks.{mixMark, lineMark, outputMark, allDone}
 use Rattle.rows.specs.Rows.{Rows, rowsOf, joined}
-use Rattle.rows.specs.Parts.{lineIn, lineLaid, lineEnds, outputIn, outputLaid, outputEnds}
+use Rattle.rows.specs.Parts.{lineIn, lineLaid, lineEnds}
+use Rattle.outputs.specs.Parts.{outputIn, outputLaid, outputEnds}
 use Rattle.opening.specs.Play.{openLaid, openWork}
 use Rattle.jobs.specs.Steps.{readRow, readWork, mixLaid, mixWork, lineWork, lineFilters, outputWork, outputFilters}
 use Rattle.demands.proofs.LineRings.{read-row}

@@ -179,12 +179,10 @@ use Rattle.lines.proofs.close_frame.Kinds as lines-close-frame-kinds
 use Rattle.lines.proofs.close_frame.Reads as lines-close-frame-reads
 use Rattle.rows.proofs.line_rows.Kinds as rows-line-rows-kinds
 use Rattle.rows.proofs.line_rows.Reads as rows-line-rows-reads
-use Rattle.rows.proofs.output_row.Kinds as rows-output-row-kinds
-use Rattle.rows.proofs.output_row.Reads as rows-output-row-reads
 use Rattle.rows.proofs.make_line.Kinds as rows-make-line-kinds
 use Rattle.rows.proofs.make_line.Reads as rows-make-line-reads
-use Rattle.rows.proofs.make_output.Kinds as rows-make-output-kinds
-use Rattle.rows.proofs.make_output.Reads as rows-make-output-reads
+use Rattle.outputs.proofs.make_output.Kinds as outputs-make-output-kinds
+use Rattle.outputs.proofs.make_output.Reads as outputs-make-output-reads
 use Rattle.reads.proofs.read_line.Kinds as reads-read-line-kinds
 use Rattle.reads.proofs.read_line.Reads as reads-read-line-reads
 use Rattle.silence.proofs.quiet.Kinds as silence-quiet-kinds
@@ -536,23 +534,25 @@ rows-line-rows κs a x y s t p q = p .0 ∙ sym (q .0)
 pub rows-line-rows-rows : OneExit 1 rows-line-rows-kinds.ps rows-line-rows-kinds.r rows-line-rows-reads.Post (λ κs s. s .1 .1 .1 .1 .1 .0 .now)
 rows-line-rows-rows κs a x y s t p q = p .1 ∙ sym (q .1)
 
-pub rows-output-row : OneResult 1 rows-output-row-kinds.ps rows-output-row-kinds.r rows-output-row-reads.Post
-rows-output-row κs a x y s t p q = p .0 ∙ sym (q .0)
-
-pub rows-output-row-rows : OneExit 1 rows-output-row-kinds.ps rows-output-row-kinds.r rows-output-row-reads.Post (λ κs s. s .1 .1 .1 .1 .1 .1 .0 .now)
-rows-output-row-rows κs a x y s t p q = p .1 ∙ sym (q .1)
-
 pub rows-make-line : OneResult 1 rows-make-line-kinds.ps rows-make-line-kinds.r rows-make-line-reads.Post
 rows-make-line κs a x y s t p q = p .0 ∙ sym (q .0)
 
 pub rows-make-line-work : OneExit 1 rows-make-line-kinds.ps rows-make-line-kinds.r rows-make-line-reads.Post (λ κs s. s .1 .1 .1 .1 .0 .now)
 rows-make-line-work κs a x y s t p q = p .1 ∙ sym (q .1)
 
-pub rows-make-output : OneResult 1 rows-make-output-kinds.ps rows-make-output-kinds.r rows-make-output-reads.Post
-rows-make-output κs a x y s t p q = p .0 ∙ sym (q .0)
+-- ---- outputs
 
-pub rows-make-output-work : OneExit 1 rows-make-output-kinds.ps rows-make-output-kinds.r rows-make-output-reads.Post (λ κs s. s .1 .1 .1 .0 .now)
-rows-make-output-work κs a x y s t p q = p .1 ∙ sym (q .1)
+pub outputs-output-row : OneResult 1 outputs-output-row-kinds.ps outputs-output-row-kinds.r outputs-output-row-reads.Post
+outputs-output-row κs a x y s t p q = p .0 ∙ sym (q .0)
+
+pub outputs-output-row-rows : OneExit 1 outputs-output-row-kinds.ps outputs-output-row-kinds.r outputs-output-row-reads.Post (λ κs s. s .1 .1 .1 .1 .1 .1 .0 .now)
+outputs-output-row-rows κs a x y s t p q = p .1 ∙ sym (q .1)
+
+pub outputs-make-output : OneResult 1 outputs-make-output-kinds.ps outputs-make-output-kinds.r outputs-make-output-reads.Post
+outputs-make-output κs a x y s t p q = p .0 ∙ sym (q .0)
+
+pub outputs-make-output-work : OneExit 1 outputs-make-output-kinds.ps outputs-make-output-kinds.r outputs-make-output-reads.Post (λ κs s. s .1 .1 .1 .0 .now)
+outputs-make-output-work κs a x y s t p q = p .1 ∙ sym (q .1)
 
 -- ---- filters
 

@@ -25,7 +25,7 @@ use Rattle.unit.specs.Range.{inRange, linesOk}
 use Rattle.judges.specs.Judges.{judged, workOk}
 use Rattle.rows.specs.Rows.{rowsOf, joined}
 use Rattle.rows.specs.Fits.{workFor, WorkFits}
-use Rattle.rows.specs.Parts.{lineLaid, lineEnds, outputLaid, outputEnds}
+use Rattle.rows.specs.Parts.{lineLaid, lineEnds}
 use Rattle.rows.proofs.RowsOf.{all-rows}
 use Rattle.reads.specs.Reads.{readLaid}
 use Rattle.reads.proofs.ReadLaid.{read-given}

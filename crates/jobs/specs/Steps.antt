@@ -15,7 +15,8 @@ use Rattle.unit.specs.Hall.{Hall}
 use Rattle.unit.specs.Model.{Model}
 use Rattle.unit.specs.Sizes.{lineLengths}
 use Rattle.rows.specs.Rows.{rowsOf, laid}
-use Rattle.rows.specs.Parts.{lineLaid, lineEnds, outputLaid, outputEnds}
+use Rattle.rows.specs.Parts.{lineLaid, lineEnds}
+use Rattle.outputs.specs.Parts.{outputLaid, outputEnds}
 use Rattle.reads.specs.Rings.{ringAt}
 use Rattle.opening.specs.Held.{holding}
 

@@ -7,7 +7,7 @@ use crate::steps::marked;
 use crate::steps::mix_rows;
 use reads::read_line;
 use rows::make_line;
-use rows::make_output;
+use outputs::make_output;
 use samples::is_accepted;
 use silence::Outcome;
 use silence::quiet;

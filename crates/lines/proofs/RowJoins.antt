@@ -20,10 +20,11 @@ use Rattle.frame.specs.Steps.{copied}
 use Rattle.frame.proofs.RowLaws.{copied-all}
 use Rattle.frame.proofs.FrameLaws.{put-beside}
 use Rattle.rows.specs.Fits.{outputFits}
-use Rattle.rows.specs.Steps.{linesEnds, linesLaid, outputFrom, outputMade, outputAfter}
+use Rattle.rows.specs.Steps.{linesEnds, linesLaid}
 use Rattle.rows.proofs.Stretches.{to-end, lent-long}
 use Rattle.rows.proofs.RowFits.{lines-yes, output-yes}
 use Rattle.rows.proofs.RowJoins.{first-part, last-part, filters-long}
+use Rattle.outputs.specs.Steps.{outputFrom, outputMade, outputAfter}
 use Rattle.lines.specs.Work.{FrameFits, frameBy, framed}
 
 -- ---- step 5 where the lines' filters are those after step 4: it looks at the others alone

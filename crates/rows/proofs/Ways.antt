@@ -1,7 +1,9 @@
 -- The two ways on from a test. Assumes nothing.
-use borrow.Author.Tests.{not-true, not-false}
-use mathlib.Core.Path.{_≡_, sym, _∙_}
-use mathlib.Core.Bool.{Bool, true, false, not}
+use borrow.Author.Tests.{le-leb, not-true, not-false}
+use mathlib.Core.Path.{_≡_, refl, sym, _∙_}
+use mathlib.Core.Bool.{Bool, true, false, not, cond}
+use Prim.Native.Nat.{ℕ, _≤_}
+use lib.Dec.{leb}
 
 -- `ok` is the test that was made, and `room` what it tells
 module _ (ok room : Bool) (e : ok ≡ room) where
@@ -10,3 +12,7 @@ module _ (ok room : Bool) (e : ok ≡ room) where
 
   pub let-in : not ok ≡ false → room ≡ true
   let-in h = sym e ∙ not-false ok h
+
+-- what is done of a k up to b was done
+pub done-within : {A : Type 0} (k b : ℕ) {x y : A} (z : A) → x ≡ cond (leb k b) y z → k ≤ b → x ≡ y
+done-within k b z e h = e ∙ rw (le-leb k b h) refl

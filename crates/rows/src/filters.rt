@@ -3,8 +3,10 @@ use iir::Bands;
 use iir::Filter;
 use lanes::FourBands;
 ghost use mathlib.Core.Path.{_≡_};
+ghost use mathlib.Core.Bool.{cond};
 ghost use mathlib.Core.List.{_++_};
 ghost use Prim.Native.Nat.{_+_, _*_, _/_, _<_, _≤_};
+ghost use lib.Dec.{leb};
 ghost use lib.ListN.{length, drop};
 ghost use Rattle.samples.specs.Lists.{over};
 ghost use Rattle.iir.specs.Runs.{bandsOut, bandsEnd};
@@ -38,12 +40,15 @@ fn with_three(k: usize, b: Bands, fs: [Filter; 51]) -> [Filter; 51]
     gs
 }
 
-// Filters a row by the three filters from k on, and gives the filters after it.
-pub(crate) fn three_at(k: usize, fs: [Filter; 51], row: &mut [f32]) -> [Filter; 51]
-    requires { ⌜ k + 2 < 51 ⌝ }
-    ensures { λ r. ⌜ r ≡ over k (threeOf (bandsEnd (three k fs) (now (row .entry)))) fs ⌝ }
-    ensures { λ _. ⌜ now (row .exit) ≡ bandsOut (three k fs) (now (row .entry)) ⌝ }
+// Filters a row by the three filters from k on, and gives the filters after it. Where there are no
+// three nothing is done.
+pub fn three_at(k: usize, fs: [Filter; 51], row: &mut [f32]) -> [Filter; 51]
+    ensures { λ r. ⌜ r ≡ cond (leb k 48) (over k (threeOf (bandsEnd (three k fs) (now (row .entry)))) fs) fs ⌝ }
+    ensures { λ _. ⌜ now (row .exit) ≡ cond (leb k 48) (bandsOut (three k fs) (now (row .entry))) (now (row .entry)) ⌝ }
 {
+    if 48 < k {
+        return fs;
+    }
     let h = alone::one_line(three_of(k, fs), row);
     with_three(k, h, fs)
 }

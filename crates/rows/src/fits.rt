@@ -26,7 +26,7 @@ pub(crate) fn lines_fit(n: usize, f: usize, len: usize) -> bool
 }
 
 // Whole rows read, mixed and of the output, and the allpass rings.
-pub(crate) fn output_fits(n: usize, f: usize, ps: [usize; 4], len: usize) -> bool
+pub fn output_fits(n: usize, f: usize, ps: [usize; 4], len: usize) -> bool
     ensures { λ r. ⌜ r ≡ outputFits n f ps len ⌝ }
 {
     if !few_rows(n, f) {
@@ -54,7 +54,7 @@ fn sum_to(ps: [usize; 4], len: usize) -> bool
 }
 
 // A work memory of frames of f samples.
-pub(crate) fn work_for(f: usize, work: usize) -> bool
+pub fn work_for(f: usize, work: usize) -> bool
     ensures { λ r. ⌜ r ≡ workFor wall f work ⌝ }
 {
     and(frame_ok(f), work_ok(f, work))

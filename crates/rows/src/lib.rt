@@ -1,25 +1,21 @@
-// The steps of a frame on rows that lie in memory one after the other: the mix, the bands, the input
-// and the output.
+// The steps of a frame's lines on rows that lie in memory one after the other: the mix, the bands and
+// the input.
 //
 // Its contracts cite `specs/`: how the rows of a frame lie, what the steps ask of the memory lent, and
 // what they leave of it.
 mod filters;
 mod fits;
-mod passes;
 mod sums;
 
 use crate::filters::band_lines;
-use crate::filters::three_at;
 use crate::fits::lines_fit;
-use crate::fits::output_fits;
-use crate::fits::work_for;
-use crate::passes::output_in;
 use crate::sums::add_input;
 use crate::sums::add_unless;
-use delay::Cursors;
+pub use filters::three_at;
+pub use fits::output_fits;
+pub use fits::work_for;
 use iir::Filter;
 use samples::and;
-use unit::PASSES;
 ghost use mathlib.Core.Path.{_≡_};
 ghost use mathlib.Core.Bool.{true, _&&_};
 ghost use mathlib.Core.List.{_++_};
@@ -28,8 +24,8 @@ ghost use lib.Dec.{ltb};
 ghost use lib.ListN.{length, take, drop};
 ghost use Rattle.unit.specs.Model.{wall};
 ghost use Rattle.rows.specs.Fits.{workFor, WorkFits};
-ghost use Rattle.rows.specs.Steps.{linesIn, linesLaid, linesEnds, outputMade, outputAfter};
-ghost use Rattle.rows.specs.Parts.{lineLaid, lineEnds, outputLaid, outputEnds};
+ghost use Rattle.rows.specs.Steps.{linesIn, linesLaid, linesEnds};
+ghost use Rattle.rows.specs.Parts.{lineLaid, lineEnds};
 
 // Steps 3 and 4 of n lines: `rows` are the input and n rows read, and after them come n to put. Gives
 // the filters after them. Where the rows don't fit nothing is done.
@@ -70,26 +66,6 @@ fn lines_in(
     gs
 }
 
-// Step 5 of n lines: `rows` are n rows read, n mixed, the output and the allpass rings, whose lengths
-// are `ps`. Gives the filters after it. Where the rows don't fit nothing is done.
-pub fn output_row(
-    n: usize,
-    f: usize,
-    divisor: f32,
-    ps: [usize; 4],
-    qs: [Cursors; 4],
-    fs: [Filter; 51],
-    rows: &mut [f32],
-) -> [Filter; 51]
-    ensures { λ r. ⌜ r ≡ outputAfter n f divisor ps qs fs (now (rows .entry)) ⌝ }
-    ensures { λ _. ⌜ now (rows .exit) ≡ outputMade n f divisor ps qs fs (now (rows .entry)) ⌝ }
-{
-    if !output_fits(n, f, ps, rows.len()) {
-        return fs;
-    }
-    output_in(n, f, divisor, ps, qs, fs, rows)
-}
-
 // Step 4 of line i on a work memory that holds the input and the rows mixed: makes the row to put, and
 // gives the filters after it. On memory that isn't one of such frames nothing is done.
 pub fn make_line(i: usize, f: usize, tail: bool, fs: [Filter; 51], work: &mut [f32]) -> [Filter; 51]
@@ -113,25 +89,4 @@ fn wall_line(i: usize, f: usize, tail: bool, fs: [Filter; 51], work: &mut [f32])
     let gs = three_at(3 * i, fs, &mut work[b..e]);
     add_input(tail, f, &mut work[0..e]);
     gs
-}
-
-// Step 5 on a work memory that holds the rows read and the allpass rings: makes the output, and gives
-// the filters after it. On memory that isn't one of such frames nothing is done.
-pub fn make_output(f: usize, qs: [Cursors; 4], fs: [Filter; 51], work: &mut [f32]) -> [Filter; 51]
-    ensures { λ r. ⌜ r ≡ outputEnds wall f qs fs (workFor wall f (length (now (work .entry)))) (now (work .entry)) ⌝ }
-    ensures { λ _. ⌜ now (work .exit) ≡ outputLaid wall f qs fs (workFor wall f (length (now (work .entry)))) (now (work .entry)) ⌝ }
-{
-    if !work_for(f, work.len()) {
-        return fs;
-    }
-    wall_output(f, qs, fs, work)
-}
-
-// The same on memory that is.
-fn wall_output(f: usize, qs: [Cursors; 4], fs: [Filter; 51], work: &mut [f32]) -> [Filter; 51]
-    requires { ⌜ WorkFits wall f (length (now work)) ⌝ }
-    ensures { λ r. ⌜ r ≡ outputEnds wall f qs fs true (now (work .entry)) ⌝ }
-    ensures { λ _. ⌜ now (work .exit) ≡ outputLaid wall f qs fs true (now (work .entry)) ⌝ }
-{
-    output_in(16, f, 16.0, PASSES, qs, fs, &mut work[f..])
 }

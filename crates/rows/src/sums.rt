@@ -1,11 +1,10 @@
-// Rows added to each other: the input to the mixed rows, and the rows read to the output.
+// The input added to the mixed rows.
 ghost use mathlib.Core.Path.{_≡_};
 ghost use mathlib.Core.Bool.{cond};
-ghost use mathlib.Core.List.{_++_, map};
+ghost use mathlib.Core.List.{_++_};
 ghost use Prim.Native.Nat.{_+_, _*_};
-ghost use lib.ListN.{length, take, drop, replicate};
-ghost use Rattle.samples.specs.Binary32.{_⊘_, +0};
-ghost use Rattle.frame.specs.Lines.{addRows, sumRows};
+ghost use lib.ListN.{length, take, drop};
+ghost use Rattle.frame.specs.Lines.{addRows};
 ghost use Rattle.frame.specs.Steps.{addedFirst};
 
 // Adds the input to each mixed row. `rows` are the input, the n rows read and the n mixed.
@@ -29,32 +28,6 @@ pub(crate) fn add_unless(tail: bool, n: usize, f: usize, rows: &mut [f32])
         return;
     }
     add_lines(n, f, rows);
-}
-
-// Sums the rows read into the output. `rows` are the n rows read, the n mixed and the output.
-pub(crate) fn sum_lines(n: usize, f: usize, rows: &mut [f32])
-    requires { ⌜ length (now rows) ≡ n * f + n * f + f ⌝ }
-    ensures { λ _. ⌜ now (rows .exit) ≡ take (n * f + n * f) (now (rows .entry)) ++ sumRows f n (replicate f +0) (take (n * f) (now (rows .entry))) ⌝ }
-{
-    let m = n * f;
-    let at = m + m;
-    samples::clear(&mut rows[at..]);
-    let mut b = 0usize;
-    for _ in 0..n {
-        frame::add_first(&mut rows[b..], f);
-        b += f;
-    }
-}
-
-// The mean of the rows read: `rows` are n rows read, n mixed, and the output.
-pub(crate) fn sum_row(n: usize, f: usize, divisor: f32, rows: &mut [f32])
-    requires { ⌜ length (now rows) ≡ n * f + n * f + f ⌝ }
-    ensures { λ _. ⌜ now (rows .exit) ≡ take (n * f + n * f) (now (rows .entry)) ++ map (λ x. x ⊘ divisor) (sumRows f n (replicate f +0) (take (n * f) (now (rows .entry)))) ⌝ }
-{
-    let m = n * f;
-    let at = m + m;
-    sum_lines(n, f, rows);
-    frame::divide(&mut rows[at..], divisor);
 }
 
 // Adds the input, which is the first f of `rows`, to the last f, unless in a tail.

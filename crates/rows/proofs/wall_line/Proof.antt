@@ -4,6 +4,7 @@ use borrow.Author.Needs.{needs}
 use denote.Ref.{now}
 use lib.ListN.{length}
 use Prim.Native.Nat.{_+_, _*_, _≤_}
+use Rattle.rows.proofs.Ways.{done-within}
 use Rattle.rows.proofs.RowFits.{row-in}
 use Rattle.rows.proofs.LineLaid.{line-laid}
 use Rattle.rows.proofs.wall_line.Statement.{statement}
@@ -73,7 +74,8 @@ returns c =
     let toned = added .before .before .before .before in
     let s = toned .before .before .before in
     let a = s .args in
-    line-laid (a .f) (a .i) (now (a .work)) (s .pre .0) (s .pre .1) (a .tail) (a .fs) _ _ _ (toned .three-at .ensures .0) (toned .three-at .ensures .1) (added .add-input .ensures)
+    let few : 3 * a .i ≤ 48 = omega (arith, s .pre .0) in
+    line-laid (a .f) (a .i) (now (a .work)) (s .pre .0) (s .pre .1) (a .tail) (a .fs) _ _ _ (done-within (3 * a .i) 48 _ (toned .three-at .ensures .0) few) (done-within (3 * a .i) 48 _ (toned .three-at .ensures .1) few) (added .add-input .ensures)
 
 pub wall-line-spec : {M : Type 1} → statement M
 wall-line-spec =

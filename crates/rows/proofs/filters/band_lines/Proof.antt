@@ -6,6 +6,7 @@ use Prim.Native.Nat.{_+_, _*_, _-_, _≤_}
 use lib.ListN.{length}
 use Rattle.frame.specs.Lines.{bandEnds}
 use Rattle.frame.proofs.RowLaws.{byBands}
+use Rattle.rows.proofs.Ways.{done-within}
 use Rattle.rows.proofs.RowsLeft.{rows-fit, row-fits}
 use Rattle.rows.proofs.BandTurns.{Filtering, band-start, four-turn, one-turn, band-done}
 use Rattle.rows.proofs.filters.band_lines.Statement.{statement}
@@ -113,7 +114,7 @@ loop-again-2 c =
     let s = turn .before .before .before .before in
     let few : 3 * s .args .n ≤ length (s .args .fs) = omega (arith, s .pre .0, s .good) in
     one-turn (s .args .n) (s .args .f) (s .args .fs) _ _ _ (l .i) (l .b) (l .gs) (l .rows) _ _ (turn .before .loop-test .taken) few (l .inv)
-    (called .three-at .ensures .0) (called .three-at .ensures .1)
+    (done-within (3 * l .i) 48 _ (called .three-at .ensures .0) (omega arith)) (done-within (3 * l .i) 48 _ (called .three-at .ensures .1) (omega arith))
 
 same-length : tie.Need-same-length Inv-loop μ-loop
 same-length c = search needs

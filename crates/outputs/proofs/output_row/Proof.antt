@@ -1,4 +1,4 @@
--- `rows::output_row` meets its contract. Assumes nothing.
+-- `outputs::output_row` meets its contract. Assumes nothing.
 use borrow.Author.Needs.{needs}
 use denote.Ref.{now}
 use mathlib.Core.Path.{_≡_, refl}
@@ -10,16 +10,16 @@ use lib.ListN.{length, take}
 use Rattle.samples.specs.Lists.{over}
 use Rattle.delay.specs.declared.Cursors.{Cursors}
 use Rattle.iir.specs.declared.Filter.{Filter}
 use Rattle.rows.specs.Fits.{outputFits}
-use Rattle.rows.specs.Steps.{outputFrom, outputMade, outputAfter}
+use Rattle.outputs.specs.Steps.{outputFrom, outputMade, outputAfter}
 use Rattle.rows.proofs.Ways.{shut, let-in}
 use Rattle.rows.proofs.RowFits.{output-of}
-use Rattle.rows.proofs.output_row.Statement.{statement}
-use Rattle.rows.proofs.output_row.Tie as tie
-use Rattle.rows.proofs.output_row.Reads as reads
-use Rattle.rows.proofs.output_row.Lts as lts
-use Rattle.rows.proofs.fits.output_fits.Reads as output-fits-reads
-use Rattle.rows.proofs.passes.output_in.Reads as output-in-reads
+use Rattle.outputs.proofs.output_row.Statement.{statement}
+use Rattle.outputs.proofs.output_row.Tie as tie
+use Rattle.outputs.proofs.output_row.Reads as reads
+use Rattle.outputs.proofs.output_row.Lts as lts
+use Rattle.rows.proofs.output_fits.Reads as output-fits-reads
+use Rattle.outputs.proofs.passes.output_in.Reads as output-in-reads
 
 output-fits-requires : tie.Need-output-fits-requires
 output-fits-requires c κs = search needs

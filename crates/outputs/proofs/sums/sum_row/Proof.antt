@@ -1,9 +1,9 @@
--- `rows::sums::sum_row` meets its contract. Assumes nothing.
+-- `outputs::sums::sum_row` meets its contract. Assumes nothing.
 use borrow.Author.Needs.{needs}
 use denote.Ref.{now}
-use Rattle.rows.proofs.RowJoins.{mean-join}
-use Rattle.rows.proofs.sums.sum_row.Statement.{statement}
-use Rattle.rows.proofs.sums.sum_row.Tie as tie
+use Rattle.outputs.proofs.OutputJoins.{mean-join}
+use Rattle.outputs.proofs.sums.sum_row.Statement.{statement}
+use Rattle.outputs.proofs.sums.sum_row.Tie as tie
 
 mul-m : tie.Need-mul-m
 mul-m c = search needs

@@ -1,4 +1,4 @@
--- `rows::sums::sum_lines` meets its contract. The invariant: all before the output is as it was, and the output so far, with the rows left,
+-- `outputs::sums::sum_lines` meets its contract. The invariant: all before the output is as it was, and the output so far, with the rows left,
 -- sums to the answer. Assumes nothing.
 use borrow.Author.Needs.{needs}
 use native.Mathlib.Omega.{arith}
@@ -7,9 +7,9 @@ use Prim.Native.Nat.{_+_, _-_, _*_}
 use lib.ListN.{take, drop}
 use denote.Ref.{now}
 use Rattle.frame.specs.Lines.{sumRows}
-use Rattle.rows.proofs.SumTurns.{Summing, cleared-long, sum-holds, sum-turn, sum-done, sum-of}
-use Rattle.rows.proofs.sums.sum_lines.Statement.{statement}
-use Rattle.rows.proofs.sums.sum_lines.Tie as tie
+use Rattle.outputs.proofs.SumTurns.{Summing, cleared-long, sum-holds, sum-turn, sum-done, sum-of}
+use Rattle.outputs.proofs.sums.sum_lines.Statement.{statement}
+use Rattle.outputs.proofs.sums.sum_lines.Tie as tie
 
 abbrev Inv-loop : tie.InvT-loop
 Inv-loop n f rows₀ m at b₀ counter₀ rows b counter =

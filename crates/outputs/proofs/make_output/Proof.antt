@@ -1,4 +1,4 @@
--- `rows::make_output` meets its contract. Assumes nothing.
+-- `outputs::make_output` meets its contract. Assumes nothing.
 use borrow.Author.Needs.{needs}
 use denote.Ref.{now}
 use mathlib.Core.Path.{_≡_, refl}
@@ -9,15 +9,15 @@ use lib.Ieee.{Float}
 use Rattle.delay.specs.declared.Cursors.{Cursors}
 use Rattle.iir.specs.declared.Filter.{Filter}
 use Rattle.unit.specs.Model.{wall}
-use Rattle.rows.specs.Parts.{outputEnds, outputLaid}
+use Rattle.outputs.specs.Parts.{outputEnds, outputLaid}
 use Rattle.rows.proofs.Ways.{shut, let-in}
 use Rattle.rows.proofs.RowsOf.{work-fits}
-use Rattle.rows.proofs.make_output.Statement.{statement}
-use Rattle.rows.proofs.make_output.Tie as tie
-use Rattle.rows.proofs.make_output.Reads as reads
-use Rattle.rows.proofs.make_output.Lts as lts
-use Rattle.rows.proofs.fits.work_for.Reads as work-for-reads
-use Rattle.rows.proofs.wall_output.Reads as wall-output-reads
+use Rattle.outputs.proofs.make_output.Statement.{statement}
+use Rattle.outputs.proofs.make_output.Tie as tie
+use Rattle.outputs.proofs.make_output.Reads as reads
+use Rattle.outputs.proofs.make_output.Lts as lts
+use Rattle.rows.proofs.work_for.Reads as work-for-reads
+use Rattle.outputs.proofs.wall_output.Reads as wall-output-reads
 
 work-for-requires : tie.Need-work-for-requires
 work-for-requires c κs = search needs

@@ -1,10 +1,10 @@
--- `rows::passes::pass_both` meets its contract. Assumes nothing.
+-- `outputs::passes::pass_both` meets its contract. Assumes nothing.
 use borrow.Author.Needs.{needs}
 use native.Mathlib.Omega.{arith}
 use denote.Ref.{now}
-use Rattle.rows.proofs.RowJoins.{two-fit, passes-join}
-use Rattle.rows.proofs.passes.pass_both.Statement.{statement}
-use Rattle.rows.proofs.passes.pass_both.Tie as tie
+use Rattle.outputs.proofs.OutputJoins.{two-fit, passes-join}
+use Rattle.outputs.proofs.passes.pass_both.Statement.{statement}
+use Rattle.outputs.proofs.passes.pass_both.Tie as tie
 
 array-read-lx : tie.Need-array-read-lx
 array-read-lx c = search needs

@@ -1,9 +1,12 @@
--- `rows::passes::output_in` meets its contract. Assumes nothing.
+-- `outputs::passes::output_in` meets its contract. Assumes nothing.
 use borrow.Author.Needs.{needs}
+use native.Mathlib.Omega.{arith}
+use Prim.Native.Nat.{_*_, _≤_}
 use denote.Ref.{now}
-use Rattle.rows.proofs.RowJoins.{output-join}
-use Rattle.rows.proofs.passes.output_in.Statement.{statement}
-use Rattle.rows.proofs.passes.output_in.Tie as tie
+use Rattle.rows.proofs.Ways.{done-within}
+use Rattle.outputs.proofs.OutputJoins.{output-join}
+use Rattle.outputs.proofs.passes.output_in.Statement.{statement}
+use Rattle.outputs.proofs.passes.output_in.Tie as tie
 
 mul-m : tie.Need-mul-m
 mul-m c = search needs
@@ -69,7 +72,9 @@ returns c =
     let summed = passed .before .before .before .before in
     let s = summed .before .before .before in
     let a = s .args in
-    output-join (a .n) (a .f) (a .divisor) (a .ps) (a .qs) (a .fs) _ (now (a .rows)) _ _ _ (s .pre .2) (s .pre .3) (search needs) (summed .sum-row .ensures) (passed .pass-both .ensures) (toned .three-at .ensures)
+    let few : 3 * a .n ≤ 48 = omega (arith, s .pre .0) in
+    output-join (a .n) (a .f) (a .divisor) (a .ps) (a .qs) (a .fs) _ (now (a .rows)) _ _ _ (s .pre .2) (s .pre .3) (search needs) (summed .sum-row .ensures) (passed .pass-both .ensures)
+    (done-within (3 * a .n) 48 _ (toned .three-at .ensures .0) few, done-within (3 * a .n) 48 _ (toned .three-at .ensures .1) few)
 
 pub output-in-spec : {M : Type 1} → statement M
 output-in-spec =

@@ -1,8 +1,8 @@
 // The output of the rows read: their mean, both allpass stages, and the tone's filters.
-use crate::filters::three_at;
 use crate::sums::sum_row;
 use delay::Cursors;
 use iir::Filter;
+use rows::three_at;
 ghost use mathlib.Core.Path.{_≡_};
 ghost use mathlib.Core.List.{_++_};
 ghost use Prim.Native.Nat.{_+_, _*_, _/_, _%_, _≤_};
@@ -11,7 +11,7 @@ ghost use Rattle.samples.specs.Lists.{over};
 ghost use Rattle.unit.specs.Sizes.{total};
 ghost use Rattle.allpass.specs.Passes.{passOut, passEnd};
 ghost use Rattle.frame.specs.Frame.{stageAt, ringsOf};
-ghost use Rattle.rows.specs.Steps.{outputFrom};
+ghost use Rattle.outputs.specs.Steps.{outputFrom};
 
 // Both allpass stages over a row, after which their four rings lie.
 pub(crate) fn pass_both(f: usize, ps: [usize; 4], qs: [Cursors; 4], rows: &mut [f32])

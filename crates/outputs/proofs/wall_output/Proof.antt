@@ -1,12 +1,12 @@
--- `rows::wall_output` meets its contract. Assumes nothing.
+-- `outputs::wall_output` meets its contract. Assumes nothing.
 use borrow.Author.Needs.{needs}
 use denote.Ref.{now}
-use Rattle.rows.proofs.RowsOf.{laid-output}
-use Rattle.rows.proofs.wall_output.Statement.{statement}
-use Rattle.rows.proofs.wall_output.Tie as tie
-use Rattle.rows.proofs.wall_output.Reads as reads
-use Rattle.rows.proofs.wall_output.Lts as lts
-use Rattle.rows.proofs.passes.output_in.Reads as output-in-reads
+use Rattle.outputs.proofs.OutputLaid.{laid-output}
+use Rattle.outputs.proofs.wall_output.Statement.{statement}
+use Rattle.outputs.proofs.wall_output.Tie as tie
+use Rattle.outputs.proofs.wall_output.Reads as reads
+use Rattle.outputs.proofs.wall_output.Lts as lts
+use Rattle.outputs.proofs.passes.output_in.Reads as output-in-reads
 
 mul-output-in : tie.Need-mul-output-in
 mul-output-in c = search needs

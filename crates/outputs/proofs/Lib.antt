@@ -1,0 +1,3 @@
+pub mod SumTurns
+pub mod OutputJoins
+pub mod OutputLaid

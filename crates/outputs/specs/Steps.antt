@@ -1,0 +1,23 @@
+-- What step 5 of n lines leaves of the rows lent and of the filters: where the rows don't fit, all is as it was.
+use Prim.Native.Nat.{ℕ, _+_, _*_}
+use mathlib.Core.Bool.{cond}
+use mathlib.Core.List.{List, _++_}
+use lib.Ieee.{Float}
+use lib.ListN.{length, take, drop}
+use Rattle.samples.specs.Lists.{over}
+use Rattle.delay.specs.declared.Cursors.{Cursors}
+use Rattle.iir.specs.declared.Filter.{Filter}
+use Rattle.frame.specs.Frame.{OutputRow, outputRow}
+use Rattle.rows.specs.Fits.{outputFits}
+
+-- step 5 from n rows read and the allpass rings, which lie after n mixed rows and the output
+abbrev pub outputFrom : ℕ → ℕ → Float → List ℕ → List Cursors → List Filter → List Float → OutputRow
+outputFrom n f d ps qs fs rows = outputRow n f d ps qs fs (drop (n * f + n * f + f) rows) (take (n * f) rows)
+
+unfoldable pub outputMade : ℕ → ℕ → Float → List ℕ → List Cursors → List Filter → List Float → List Float
+outputMade n f d ps qs fs rows =
+    let r = outputFrom n f d ps qs fs rows in
+    cond (outputFits n f ps (length rows)) (take (n * f + n * f) rows ++ (r .out ++ r .rings)) rows
+
+unfoldable pub outputAfter : ℕ → ℕ → Float → List ℕ → List Cursors → List Filter → List Float → List Filter
+outputAfter n f d ps qs fs rows = cond (outputFits n f ps (length rows)) (over (3 * n) (outputFrom n f d ps qs fs rows .filters) fs) fs

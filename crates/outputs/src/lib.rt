@@ -1,0 +1,61 @@
+// The output of a frame, from rows that lie in memory one after the other: the mean of the rows read,
+// both allpass stages and the tone's filters.
+//
+// Its contracts cite `specs/`: what step 5 leaves of the memory lent and of the filters.
+mod passes;
+mod sums;
+
+use crate::passes::output_in;
+use delay::Cursors;
+use iir::Filter;
+use rows::output_fits;
+use rows::work_for;
+use unit::PASSES;
+ghost use mathlib.Core.Path.{_≡_};
+ghost use mathlib.Core.Bool.{true};
+ghost use lib.ListN.{length};
+ghost use Rattle.unit.specs.Model.{wall};
+ghost use Rattle.rows.specs.Fits.{workFor, WorkFits};
+ghost use Rattle.outputs.specs.Steps.{outputMade, outputAfter};
+ghost use Rattle.outputs.specs.Parts.{outputLaid, outputEnds};
+
+// Step 5 of n lines: `rows` are n rows read, n mixed, the output and the allpass rings, whose lengths
+// are `ps`. Gives the filters after it. Where the rows don't fit nothing is done.
+pub fn output_row(
+    n: usize,
+    f: usize,
+    divisor: f32,
+    ps: [usize; 4],
+    qs: [Cursors; 4],
+    fs: [Filter; 51],
+    rows: &mut [f32],
+) -> [Filter; 51]
+    ensures { λ r. ⌜ r ≡ outputAfter n f divisor ps qs fs (now (rows .entry)) ⌝ }
+    ensures { λ _. ⌜ now (rows .exit) ≡ outputMade n f divisor ps qs fs (now (rows .entry)) ⌝ }
+{
+    if !output_fits(n, f, ps, rows.len()) {
+        return fs;
+    }
+    output_in(n, f, divisor, ps, qs, fs, rows)
+}
+
+// Step 5 on a work memory that holds the rows read and the allpass rings: makes the output, and gives
+// the filters after it. On memory that isn't one of such frames nothing is done.
+pub fn make_output(f: usize, qs: [Cursors; 4], fs: [Filter; 51], work: &mut [f32]) -> [Filter; 51]
+    ensures { λ r. ⌜ r ≡ outputEnds wall f qs fs (workFor wall f (length (now (work .entry)))) (now (work .entry)) ⌝ }
+    ensures { λ _. ⌜ now (work .exit) ≡ outputLaid wall f qs fs (workFor wall f (length (now (work .entry)))) (now (work .entry)) ⌝ }
+{
+    if !work_for(f, work.len()) {
+        return fs;
+    }
+    wall_output(f, qs, fs, work)
+}
+
+// The same on memory that is.
+fn wall_output(f: usize, qs: [Cursors; 4], fs: [Filter; 51], work: &mut [f32]) -> [Filter; 51]
+    requires { ⌜ WorkFits wall f (length (now work)) ⌝ }
+    ensures { λ r. ⌜ r ≡ outputEnds wall f qs fs true (now (work .entry)) ⌝ }
+    ensures { λ _. ⌜ now (work .exit) ≡ outputLaid wall f qs fs true (now (work .entry)) ⌝ }
+{
+    output_in(16, f, 16.0, PASSES, qs, fs, &mut work[f..])
+}
