@@ -1,7 +1,10 @@
 -- "A contract determines the result and every lent float afterwards, for all arguments, refusals too": of each public function, over its
 -- own contract. A theorem is named after the crate and the function, and where it speaks of a slice at exit after that too. Assumes nothing.
-use mathlib.Core.Path.{sym, _∙_}
+use mathlib.Core.Path.{_≡_, sym, _∙_}
+use lib.ListN.{getD}
 use denote.Ref.{now}
+use Rattle.lanes.specs.declared.bank.FourBands.{FourBands}
+use Rattle.fours.specs.Lines.{lines}
 use Rattle.demands.specs.Determined.{OneResult, OneValue, OneExit}
 use Rattle.samples.proofs.number.Kinds as samples-number-kinds
 use Rattle.samples.proofs.number.Reads as samples-number-reads
@@ -181,6 +184,8 @@ use Rattle.rows.proofs.line_rows.Kinds as rows-line-rows-kinds
 use Rattle.rows.proofs.line_rows.Reads as rows-line-rows-reads
 use Rattle.rows.proofs.make_line.Kinds as rows-make-line-kinds
 use Rattle.rows.proofs.make_line.Reads as rows-make-line-reads
+use Rattle.outputs.proofs.output_row.Kinds as outputs-output-row-kinds
+use Rattle.outputs.proofs.output_row.Reads as outputs-output-row-reads
 use Rattle.outputs.proofs.make_output.Kinds as outputs-make-output-kinds
 use Rattle.outputs.proofs.make_output.Reads as outputs-make-output-reads
 use Rattle.reads.proofs.read_line.Kinds as reads-read-line-kinds
@@ -205,6 +210,28 @@ use Rattle.jobs.proofs.job_line.Kinds as jobs-job-line-kinds
 use Rattle.jobs.proofs.job_line.Reads as jobs-job-line-reads
 use Rattle.jobs.proofs.job_output.Kinds as jobs-job-output-kinds
 use Rattle.jobs.proofs.job_output.Reads as jobs-job-output-reads
+use Rattle.lanes.proofs.pack.Kinds as lanes-pack-kinds
+use Rattle.lanes.proofs.pack.Reads as lanes-pack-reads
+use Rattle.lanes.proofs.lane.Kinds as lanes-lane-kinds
+use Rattle.lanes.proofs.lane.Reads as lanes-lane-reads
+use Rattle.lanes.proofs.step.Kinds as lanes-step-kinds
+use Rattle.lanes.proofs.step.Reads as lanes-step-reads
+use Rattle.lanes.proofs.by_band.Kinds as lanes-by-band-kinds
+use Rattle.lanes.proofs.by_band.Reads as lanes-by-band-reads
+use Rattle.lanes.proofs.bands_at.Kinds as lanes-bands-at-kinds
+use Rattle.lanes.proofs.bands_at.Reads as lanes-bands-at-reads
+use Rattle.lanes.proofs.step_bank.Kinds as lanes-step-bank-kinds
+use Rattle.lanes.proofs.step_bank.Reads as lanes-step-bank-reads
+use Rattle.alone.proofs.one_line.Kinds as alone-one-line-kinds
+use Rattle.alone.proofs.one_line.Reads as alone-one-line-reads
+use Rattle.rows.proofs.three_at.Kinds as rows-three-at-kinds
+use Rattle.rows.proofs.three_at.Reads as rows-three-at-reads
+use Rattle.rows.proofs.output_fits.Kinds as rows-output-fits-kinds
+use Rattle.rows.proofs.output_fits.Reads as rows-output-fits-reads
+use Rattle.rows.proofs.work_for.Kinds as rows-work-for-kinds
+use Rattle.rows.proofs.work_for.Reads as rows-work-for-reads
+use Rattle.fours.proofs.four_lines.Kinds as fours-four-lines-kinds
+use Rattle.fours.proofs.four_lines.Reads as fours-four-lines-reads
 
 -- ---- samples
 
@@ -309,6 +336,46 @@ iir-is-finite κs a x y s t p q = p ∙ sym (q)
 
 pub iir-is-blank : OneResult 0 iir-is-blank-kinds.ps iir-is-blank-kinds.r iir-is-blank-reads.Post
 iir-is-blank κs a x y s t p q = p ∙ sym (q)
+
+-- ---- lanes
+
+pub lanes-pack : OneResult 0 lanes-pack-kinds.ps lanes-pack-kinds.r lanes-pack-reads.Post
+lanes-pack κs a x y s t p q = p ∙ sym (q)
+
+pub lanes-lane : OneResult 0 lanes-lane-kinds.ps lanes-lane-kinds.r lanes-lane-reads.Post
+lanes-lane κs a x y s t p q = p ∙ sym (q)
+
+pub lanes-step : OneResult 0 lanes-step-kinds.ps lanes-step-kinds.r lanes-step-reads.Post
+lanes-step κs a x y s t p q = p ∙ sym (q)
+
+pub lanes-by-band : OneResult 0 lanes-by-band-kinds.ps lanes-by-band-kinds.r lanes-by-band-reads.Post
+lanes-by-band κs a x y s t p q = p ∙ sym (q)
+
+pub lanes-bands-at : OneResult 0 lanes-bands-at-kinds.ps lanes-bands-at-kinds.r lanes-bands-at-reads.Post
+lanes-bands-at κs a x y s t p q = p ∙ sym (q)
+
+pub lanes-step-bank : OneResult 0 lanes-step-bank-kinds.ps lanes-step-bank-kinds.r lanes-step-bank-reads.Post
+lanes-step-bank κs a x y s t p q = p ∙ sym (q)
+
+-- ---- fours
+
+-- four bands are told by the list of them
+same-bands : (x y : FourBands) → lines x ≡ lines y → x ≡ y
+same-bands x y e = λ i. record { b0 = getD (e i) 0 (x .b0); b1 = getD (e i) 1 (x .b0); b2 = getD (e i) 2 (x .b0); b3 = getD (e i) 3 (x .b0) }
+
+pub fours-four-lines : OneResult 1 fours-four-lines-kinds.ps fours-four-lines-kinds.r fours-four-lines-reads.Post
+fours-four-lines κs a x y s t p q = same-bands _ _ (p .0 ∙ sym (q .0))
+
+pub fours-four-lines-rows : OneExit 1 fours-four-lines-kinds.ps fours-four-lines-kinds.r fours-four-lines-reads.Post (λ κs s. s .1 .0 .now)
+fours-four-lines-rows κs a x y s t p q = p .1 ∙ sym (q .1)
+
+-- ---- alone
+
+pub alone-one-line : OneResult 1 alone-one-line-kinds.ps alone-one-line-kinds.r alone-one-line-reads.Post
+alone-one-line κs a x y s t p q = p .0 ∙ sym (q .0)
+
+pub alone-one-line-xs : OneExit 1 alone-one-line-kinds.ps alone-one-line-kinds.r alone-one-line-reads.Post (λ κs s. s .1 .0 .now)
+alone-one-line-xs κs a x y s t p q = p .1 ∙ sym (q .1)
 
 -- ---- hadamard
 
@@ -539,6 +606,18 @@ rows-make-line κs a x y s t p q = p .0 ∙ sym (q .0)
 
 pub rows-make-line-work : OneExit 1 rows-make-line-kinds.ps rows-make-line-kinds.r rows-make-line-reads.Post (λ κs s. s .1 .1 .1 .1 .0 .now)
 rows-make-line-work κs a x y s t p q = p .1 ∙ sym (q .1)
+
+pub rows-three-at : OneResult 1 rows-three-at-kinds.ps rows-three-at-kinds.r rows-three-at-reads.Post
+rows-three-at κs a x y s t p q = p .0 ∙ sym (q .0)
+
+pub rows-three-at-row : OneExit 1 rows-three-at-kinds.ps rows-three-at-kinds.r rows-three-at-reads.Post (λ κs s. s .1 .1 .0 .now)
+rows-three-at-row κs a x y s t p q = p .1 ∙ sym (q .1)
+
+pub rows-output-fits : OneResult 0 rows-output-fits-kinds.ps rows-output-fits-kinds.r rows-output-fits-reads.Post
+rows-output-fits κs a x y s t p q = p ∙ sym (q)
+
+pub rows-work-for : OneResult 0 rows-work-for-kinds.ps rows-work-for-kinds.r rows-work-for-reads.Post
+rows-work-for κs a x y s t p q = p ∙ sym (q)
 
 -- ---- outputs
 

@@ -27,6 +27,7 @@ use Rattle.rows.specs.Rows.{rowsOf, joined}
 use Rattle.rows.specs.Fits.{workFor, WorkFits}
 use Rattle.rows.specs.Parts.{lineLaid, lineEnds}
 use Rattle.rows.proofs.RowsOf.{all-rows}
+use Rattle.outputs.specs.Parts.{outputLaid, outputEnds}
 use Rattle.reads.specs.Reads.{readLaid}
 use Rattle.reads.proofs.ReadLaid.{read-given}
 use Rattle.reverb.proofs.Fits.{Due}

@@ -5,9 +5,9 @@ mod steps;
 
 use crate::steps::marked;
 use crate::steps::mix_rows;
+use outputs::make_output;
 use reads::read_line;
 use rows::make_line;
-use outputs::make_output;
 use samples::is_accepted;
 use silence::Outcome;
 use silence::quiet;
