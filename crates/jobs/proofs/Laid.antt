@@ -30,7 +30,7 @@ use Rattle.rows.proofs.RowsOf.{all-rows}
 use Rattle.outputs.specs.Parts.{outputLaid, outputEnds}
 use Rattle.reads.specs.Reads.{readLaid}
 use Rattle.reads.proofs.ReadLaid.{read-given}
-use Rattle.reverb.proofs.Fits.{Due}
+use Rattle.judges.proofs.Fits.{Due}
 use Rattle.jobs.specs.Steps.{readWork, mixLaid, lineWork, lineFilters, outputWork, outputFilters}
 
 -- an accepted job's work memory is one of its unit's frames

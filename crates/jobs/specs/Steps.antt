@@ -18,7 +18,7 @@ use Rattle.rows.specs.Rows.{rowsOf, laid}
 use Rattle.rows.specs.Parts.{lineLaid, lineEnds}
 use Rattle.outputs.specs.Parts.{outputLaid, outputEnds}
 use Rattle.reads.specs.Rings.{ringAt}
-use Rattle.opening.specs.Held.{holding}
+use Rattle.turns.specs.Held.{holding}
 
 -- the unit with the job of mark k done, and its filters then
 abbrev pub markedUnit : Hall → ℕ → List Filter → Hall

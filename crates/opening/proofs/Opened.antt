@@ -23,7 +23,7 @@ use Rattle.rows.specs.Fits.{WorkFits}
 use Rattle.rows.specs.Rows.{joined}
 use Rattle.lines.proofs.RowJoins.{copy-join}
 use Rattle.rows.proofs.RowsOf.{work-fits}
-use Rattle.reverb.proofs.Fits.{Due}
+use Rattle.judges.proofs.Fits.{Due}
 use Rattle.opening.specs.Play.{openLaid}
 
 -- an accepted open is lent a store and a work memory of its unit's frames

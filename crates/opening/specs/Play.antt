@@ -17,7 +17,7 @@ use Rattle.frame.specs.Lines.{filtersOf}
 use Rattle.frame.specs.Frame.{Frame, passesIn}
 use Rattle.frame.specs.Settle.{fallen}
 use Rattle.reverb.specs.Whole.{applyFrame, applyCount, tailFrame}
-use Rattle.opening.specs.Held.{holding}
+use Rattle.turns.specs.Held.{holding}
 use Rattle.rows.specs.Rows.{laid}
 use Rattle.turns.specs.Turns.{judgedOpenApply, judgedOpenTail}
 

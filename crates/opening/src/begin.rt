@@ -11,7 +11,7 @@ ghost use Rattle.unit.specs.Hall.{ofState, toState};
 ghost use Rattle.unit.specs.Model.{wall};
 ghost use Rattle.unit.specs.Sizes.{storeLen};
 ghost use Rattle.rows.specs.Fits.{WorkFits};
-ghost use Rattle.opening.specs.Held.{holding};
+ghost use Rattle.turns.specs.Held.{holding};
 ghost use Rattle.opening.specs.Play.{openLaid};
 
 // The unit with a frame open: its kind, the filters that it begins with and the count to be set.

@@ -1,6 +1,6 @@
 // A frame opened, to be done as jobs.
 //
-// Its contracts cite `specs/`: what is held for an open frame, and what an open leaves of the work
+// Its contracts cite `specs/`: which frame is opened, and what an open leaves of the state and of the work
 // memory.
 mod begin;
 

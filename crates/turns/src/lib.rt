@@ -1,7 +1,8 @@
 // Whose turn it is in a frame that is done as jobs: what is due of each call, by the marks of the jobs
 // that are done.
 //
-// Its contracts cite `specs/`: where the marks stand, and what each call waits for.
+// Its contracts cite `specs/`: where the marks stand, and what each call waits for. What is held for an
+// open frame stands there too.
 mod marks;
 
 use crate::marks::all_done;

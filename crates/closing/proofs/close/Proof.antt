@@ -10,7 +10,7 @@ use Rattle.judges.specs.Judges.{lentOk}
 use Rattle.turns.specs.Marks.{allDone}
 use Rattle.turns.specs.Turns.{judgedClose}
 use Rattle.rows.specs.Rows.{rowsOf}
-use Rattle.reverb.proofs.Fits.{due-of, room-of}
+use Rattle.judges.proofs.Fits.{due-of, room-of}
 use Rattle.silence.proofs.Outcomes.{refused, let-by}
 use Rattle.closing.proofs.Closed.{all-as-was, as-ended}
 use Rattle.closing.proofs.close.Statement.{statement}

@@ -20,7 +20,7 @@ use Rattle.turns.specs.Marks.{mixMark, lineMark, marked}
 use Rattle.turns.specs.Turns.{judgedLine}
 use Rattle.rows.specs.Fits.{workFor}
 use Rattle.silence.specs.Silence.{outcome}
-use Rattle.reverb.proofs.Fits.{due-of}
+use Rattle.judges.proofs.Fits.{due-of}
 use Rattle.silence.proofs.Outcomes.{old-left, new-left, let-by}
 use Rattle.jobs.specs.Steps.{markedUnit, lineWork, lineFilters}
 use Rattle.jobs.proofs.Laid.{work-for, line-of, line-work, line-ends}

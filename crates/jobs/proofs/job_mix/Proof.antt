@@ -13,7 +13,7 @@ use Rattle.turns.specs.Marks.{mixMark, marked, allRead}
 use Rattle.turns.specs.Turns.{judgedMix}
 use Rattle.rows.proofs.RowsOf.{work-fits}
 use Rattle.silence.specs.Silence.{outcome}
-use Rattle.reverb.proofs.Fits.{due-of}
+use Rattle.judges.proofs.Fits.{due-of}
 use Rattle.silence.proofs.Outcomes.{old-left, new-left, let-by}
 use Rattle.jobs.specs.Steps.{markedUnit, mixWork}
 use Rattle.jobs.proofs.Laid.{work-for}

@@ -14,7 +14,7 @@ use Rattle.judges.specs.Judges.{workOk}
 use Rattle.turns.specs.Marks.{outputMark, marked, allRead}
 use Rattle.turns.specs.Turns.{judgedOutput}
 use Rattle.silence.specs.Silence.{outcome}
-use Rattle.reverb.proofs.Fits.{due-of}
+use Rattle.judges.proofs.Fits.{due-of}
 use Rattle.silence.proofs.Outcomes.{old-left, new-left, let-by}
 use Rattle.jobs.specs.Steps.{markedUnit, outputWork, outputFilters}
 use Rattle.jobs.proofs.Laid.{work-for, output-work, output-ends}

@@ -21,7 +21,7 @@ use Rattle.rows.specs.Fits.{workFor}
 use Rattle.rows.proofs.RowsOf.{work-fits}
 use Rattle.reads.specs.Reads.{lineRoom}
 use Rattle.silence.specs.Silence.{outcome}
-use Rattle.reverb.proofs.Fits.{Due, due-of}
+use Rattle.judges.proofs.Fits.{Due, due-of}
 use Rattle.silence.proofs.Outcomes.{old-left, new-left, let-by}
 use Rattle.jobs.specs.Steps.{markedUnit, readWork}
 use Rattle.jobs.proofs.Laid.{work-for, line-of, read-work}

@@ -1,6 +1,9 @@
 -- `judges::judge_given` meets its contract. Assumes nothing.
 use borrow.Author.Needs.{needs}
-use Rattle.judges.specs.Judges.{judgedGiven}
+use mathlib.Core.Path.{ap, _∙_}
+use Rattle.samples.specs.declared.Answer.the-variants.{BadTime, BadCoefficient}
+use Rattle.samples.proofs.Laws.{need-of}
+use Rattle.judges.specs.Judges.{judgedGiven, badInput}
 use Rattle.judges.proofs.judge_given.Statement.{statement}
 use Rattle.judges.proofs.judge_given.Tie as tie
 
@@ -24,7 +27,12 @@ need-requires-2 c κs = search needs
 
 returns : tie.Need-returns
 unfolding judgedGiven
-returns c = cc
+returns c =
+    let bad = c .before .before in
+    let first = bad .before in
+    let all = first .before in
+    need-of BadTime (c .need2 .ensures) (all .before .times-ok .ensures)
+    (need-of BadCoefficient (c .before .need .ensures) (all .all-finite .ensures) (bad .bad-input .ensures ∙ ap badInput (first .first-bad .ensures)))
 
 pub judge-given-spec : {M : Type 1} → statement M
 judge-given-spec =

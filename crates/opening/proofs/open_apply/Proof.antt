@@ -15,8 +15,8 @@ use Rattle.silence.specs.Silence.{outcome}
 use Rattle.silence.proofs.Outcomes.{old-left, new-left, let-by}
 use Rattle.reverb.proofs.WholeParts.{filters-given}
 use Rattle.turns.specs.Turns.{judgedOpenApply}
-use Rattle.reverb.proofs.Fits.{given-of}
-use Rattle.opening.specs.Held.{holding}
+use Rattle.judges.proofs.Fits.{given-of}
+use Rattle.turns.specs.Held.{holding}
 use Rattle.opening.specs.Play as Play
 use Rattle.opening.specs.Play.{opened, openWork}
 use Rattle.opening.proofs.Opened.{open-fits, open-long, laid-after}

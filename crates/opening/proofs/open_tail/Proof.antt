@@ -13,10 +13,10 @@ use Rattle.unit.specs.Hall.{ofState}
 use Rattle.unit.specs.Model.{wall}
 use Rattle.judges.specs.Judges.{storeOk, workOk}
 use Rattle.silence.specs.Silence.{outcome}
-use Rattle.reverb.proofs.Fits.{due-of}
+use Rattle.judges.proofs.Fits.{due-of}
 use Rattle.silence.proofs.Outcomes.{old-left, new-left, let-by}
 use Rattle.turns.specs.Turns.{judgedOpenTail}
-use Rattle.opening.specs.Held.{holding}
+use Rattle.turns.specs.Held.{holding}
 use Rattle.opening.specs.Play as Play
 use Rattle.opening.specs.Play.{opened, openWork}
 use Rattle.opening.proofs.Opened.{open-fits}

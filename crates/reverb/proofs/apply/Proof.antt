@@ -11,7 +11,7 @@ use Rattle.unit.specs.Hall.{ofState}
 use Rattle.unit.specs.Model.{wall}
 use Rattle.judges.specs.Judges.{judgedApply}
 use Rattle.reverb.specs.Whole.{applyFrame, applyCount}
-use Rattle.reverb.proofs.Fits.{ApplyFits, apply-fits}
+use Rattle.judges.proofs.Fits.{ApplyFits, apply-fits}
 use Rattle.silence.proofs.Outcomes.{refused, let-by}
 use Rattle.reverb.proofs.WholeParts.{begun, filters-given, one-frame, all-as-was, as-frame}
 use Rattle.samples.proofs.Laws.{is-accepted}

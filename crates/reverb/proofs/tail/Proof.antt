@@ -10,7 +10,7 @@ use Rattle.unit.specs.Model.{wall}
 use Rattle.judges.specs.Judges.{judgedTail, lentOk}
 use Rattle.frame.specs.Settle.{fallen}
 use Rattle.reverb.specs.Whole.{tailFrame}
-use Rattle.reverb.proofs.Fits.{due-of, room-of}
+use Rattle.judges.proofs.Fits.{due-of, room-of}
 use Rattle.silence.proofs.Outcomes.{refused, let-by}
 use Rattle.reverb.proofs.WholeParts.{no-input, all-as-was, as-frame}
 use Rattle.samples.proofs.Laws.{is-accepted}
