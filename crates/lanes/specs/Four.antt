@@ -1,4 +1,4 @@
--- Four numbers, one of each line. Private functions alone cite it.
+-- Four numbers, one of each line.
 use Prim.Native.Nat.{ℕ, zero, suc}
 use lib.Ieee.{Float}
 use Rattle.lanes.specs.declared.four.Four.{Four}

@@ -1,4 +1,3 @@
-pub mod Filled
 pub mod Given
 pub mod Silence
 pub mod SeventySix

@@ -1,7 +1,6 @@
 -- One frame of document 01's program: from the bytes read to the bytes written.
 use mathlib.Core.List.{List}
 use Prim.Native.Nat.{ℕ}
-use lib.IntN.{ℤ, pos, negsuc}
 use lib.Ieee.{Float}
 use lib.ListN.{replicate}
 use Rattle.samples.specs.declared.Answer.{Answer}
@@ -14,7 +13,7 @@ use Rattle.frame.specs.Frame.{Frame}
 use Rattle.frame.specs.Settle.{fallen}
 use Rattle.silence.specs.declared.Outcome.{Outcome}
 use Rattle.reverb.specs.Whole.{applyFrame, applyCount, tailFrame, wholeAnswer, wholeOutcome, wholeStore, wholeWork}
-use Rattle.shell.specs.Settings.{frame, storeFloats, workFloats, times, coefficients}
+use Rattle.settings.specs.Settings.{frame, storeFloats, workFloats, times, coefficients}
 
 -- "It reads little-endian binary32 .., pads the last frame with +0, ignores 1 to 3 odd bytes": the samples of a frame's bytes
 abbrev pub heard : List ℕ → List Float
@@ -59,8 +58,3 @@ tailWork u work = wholeWork (tailDue u) work
 
 abbrev pub tailSaid : Hall → List Float → List ℕ
 tailSaid u store = said (tailDue u) (tailFrame wall u store)
-
--- "then makes as many tail calls as the last count read": none where the count is below 0
-abbrev pub calls : ℤ → ℕ
-calls (pos n) = n
-calls (negsuc n) = 0

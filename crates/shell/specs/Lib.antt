@@ -1,4 +1,3 @@
-pub mod Settings
 pub mod Frames
 pub mod Counts
 pub mod Refused

@@ -1,6 +1,7 @@
 -- What document 01's program is set to.
 use mathlib.Core.List.{List, [], _∷_, _++_}
 use Prim.Native.Nat.{ℕ, zero, suc}
+use lib.IntN.{ℤ, pos, negsuc}
 use lib.Ieee.{Float, binary32, ofBits}
 use Rattle.samples.specs.Binary32.{+0}
 use Rattle.bands.specs.declared.Times.{Times}
@@ -42,3 +43,8 @@ lineGains (suc n) = halves ++ (lets-by ++ (lets-by ++ lineGains n))
 -- "line 0 bands 0 to 2, and so on to line 15, then tone bands 0 to 2"
 unfoldable pub coefficients : List Float
 coefficients = lineGains 16 ++ (lets-by ++ (lets-by ++ lets-by))
+
+-- "then makes as many tail calls as the last count read": none where the count is below 0
+abbrev pub calls : ℤ → ℕ
+calls (pos n) = n
+calls (negsuc n) = 0

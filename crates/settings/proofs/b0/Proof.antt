@@ -1,8 +1,8 @@
--- `shell::b0` meets its contract. Assumes nothing.
+-- `settings::b0` meets its contract. Assumes nothing.
 use borrow.Author.Needs.{needs}
 use mathlib.Core.Path.{sym, _∙_}
-use Rattle.shell.proofs.b0.Statement.{statement}
-use Rattle.shell.proofs.b0.Tie as tie
+use Rattle.settings.proofs.b0.Statement.{statement}
+use Rattle.settings.proofs.b0.Tie as tie
 
 and-requires : tie.Need-and-requires
 and-requires c κs = search needs

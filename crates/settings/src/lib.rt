@@ -1,0 +1,72 @@
+// What document 01's program is set to: its times and filters, its unit at the start, and how many tail
+// frames it plays.
+//
+// Its contracts cite `specs/`.
+use bands::Times;
+use samples::Frames;
+use samples::and;
+use silence::Outcome;
+ghost use mathlib.Core.Path.{_≡_};
+ghost use mathlib.Core.Bool.{cond, _&&_};
+ghost use Prim.Native.Nat.{_%_};
+ghost use lib.Dec.{ltb, eqb};
+ghost use lib.Ieee.{binary32, ofBits};
+ghost use lib.ListN.{replicate};
+ghost use Rattle.samples.specs.Binary32.{+0};
+ghost use Rattle.samples.specs.declared.Answer.the-variants.{Accepted};
+ghost use Rattle.unit.specs.Model.{wall};
+ghost use Rattle.unit.specs.Fresh.{freshHall};
+ghost use Rattle.silence.specs.Silence.{outcome};
+ghost use Rattle.audio_buffer.specs.declared.AudioEffectState.the-variants.{TailComplete};
+ghost use Rattle.settings.specs.Settings.{frame, rate, storeFloats, times, coefficients, calls};
+
+// How many floats of store the program's unit is lent.
+pub const STORE: usize = 9648;
+
+// And how many of work memory.
+pub const WORK: usize = 5700;
+
+// The three reverb times.
+pub fn times() -> Times
+    ensures { λ r. ⌜ r ≡ times ⌝ }
+{
+    Times {
+        low: 0.1,
+        mid: 0.1,
+        high: 0.1,
+    }
+}
+
+// By what filter k multiplies: band 0 of a line halves, every other filter lets by.
+fn b0(k: usize) -> f32
+    ensures { λ r. ⌜ r ≡ cond (ltb k 48 && eqb (k % 3) 0) (ofBits binary32 0x3f00_0000) (ofBits binary32 0x3f80_0000) ⌝ }
+{
+    if and(k < 48, k % 3 == 0) { 0.5 } else { 1.0 }
+}
+
+// The coefficients of all filters, five each.
+pub fn coefficients() -> [f32; 255]
+    ensures { λ r. ⌜ r ≡ coefficients ⌝ }
+{
+    let mut cs = [0.0f32; 255];
+    for k in 0..51usize {
+        cs[5 * k + 2] = b0(k);
+    }
+    cs
+}
+
+// The program's unit, in which nothing has sounded yet.
+pub fn start(store: &mut [f32; STORE]) -> Outcome
+    ensures { λ r. ⌜ r ≡ outcome Accepted (freshHall wall rate frame) TailComplete ⌝ }
+    ensures { λ _. ⌜ now (store .exit) ≡ replicate storeFloats +0 ⌝ }
+{
+    silence::fresh(48000, 128, store)
+}
+
+// How many tail calls a count asks for.
+pub fn tail_calls(count: Frames) -> u32
+    ensures { λ r. ⌜ r ≡ calls (count .0) ⌝ }
+{
+    let n = count.0;
+    if n > 0 { n as u32 } else { 0 }
+}
