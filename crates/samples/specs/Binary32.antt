@@ -1,6 +1,7 @@
 -- The words of IEEE 754 binary32 that every definition of the unit is written in: each step is rounded once, to nearest, ties to even.
 use mathlib.Core.Bool.{Bool, true, false}
 use Prim.Native.Nat.{zero, suc}
+use lib.IntN.{pos, negsuc}
 use lib.Ieee.{Float, nan, inf, fin, binary32, add, sub, mul, div, ofBits}
 
 infixl 65 _⊕_ _⊖_
@@ -34,4 +35,6 @@ plusZero nan = false
 plusZero (inf s) = false
 plusZero (fin s (suc m) e) = false
 plusZero (fin true zero e) = false
-plusZero (fin false zero e) = true
+plusZero (fin false zero (negsuc k)) = false
+plusZero (fin false zero (pos (suc k))) = false
+plusZero (fin false zero (pos zero)) = true

@@ -1,11 +1,11 @@
 -- `samples::is_plus_zero` meets its contract: of the floats that equal 0, one over +0 alone is above 0. Assumes nothing.
 use mathlib.Core.Path.{_≡_, refl, sym, _∙_}
 use mathlib.Core.Bool.{Bool, true, false}
-use Prim.Native.Nat.{ℕ, zero, suc, _*_, _<_}
+use Prim.Native.Nat.{ℕ, zero, suc, _*_, _<_, _^_}
 use native.Mathlib.Omega.{arith}
-use native.Mathlib.Nat.{zero-mul, mul-one, mul-pos}
+use native.Mathlib.Nat.{zero-mul, mul-one, one-mul, mul-pos, pow-suc}
 use lib.IntN.{ℤ, pos, negsuc}
-use lib.Ieee.{Float, nan, inf, fin, binary32, eq, lt, div, ofBits, up, down}
+use lib.Ieee.{Float, nan, inf, fin, binary32, eq, lt, div, ofBits, up, down, fits}
 use lib.Ieee.Fits.{up-pos}
 use borrow.Author.Tests.{eqb-true}
 use Rattle.samples.specs.Binary32.{plusZero}
@@ -28,14 +28,19 @@ not-level s m e h =
     let b : 0 < suc m * up e = mul-pos some (up-pos e) in
     omega arith
 
-when-zero : (x : Float) → eq x zero32 ≡ true → lt zero32 (div binary32 one32 x) ≡ plusZero x
-unfolding eq lt div plusZero
-when-zero nan e = refl
-when-zero (inf true) e = refl
-when-zero (inf false) e = refl
-when-zero (fin s (suc m) e) h = absurd (not-level s m e h)
-when-zero (fin true zero e) h = refl
-when-zero (fin false zero e) h = refl
+no-power : (k : ℕ) → 2 ^ suc k ≡ 1 → ⊥
+no-power k e = omega (arith, pow-suc 2 k, e)
+
+when-zero : (x : Float) → fits binary32 x ≡ true → eq x zero32 ≡ true → lt zero32 (div binary32 one32 x) ≡ plusZero x
+unfolding eq lt div plusZero fits
+when-zero nan f e = refl
+when-zero (inf true) f e = refl
+when-zero (inf false) f e = refl
+when-zero (fin s (suc m) e) f h = absurd (not-level s m e h)
+when-zero (fin true zero e) f h = refl
+when-zero (fin false zero (pos zero)) f h = refl
+when-zero (fin false zero (pos (suc k))) f h = absurd (no-power k (sym (mul-one (2 ^ suc k)) ∙ eqb-true _ _ f))
+when-zero (fin false zero (negsuc k)) f h = absurd (no-power k (sym (one-mul (2 ^ suc k)) ∙ eqb-true _ _ f))
 
 when-not : (x : Float) → eq x zero32 ≡ false → false ≡ plusZero x
 unfolding eq plusZero
@@ -43,12 +48,13 @@ when-not nan e = refl
 when-not (inf s) e = refl
 when-not (fin s (suc m) e) h = refl
 when-not (fin true zero e) h = refl
-when-not (fin false zero (pos k)) h = sym (simp (zero-mul, mul-one) at h)
-when-not (fin false zero (negsuc k)) h = sym (simp (zero-mul, mul-one) at h)
+when-not (fin false zero (pos zero)) h = sym h
+when-not (fin false zero (pos (suc k))) h = refl
+when-not (fin false zero (negsuc k)) h = refl
 
 returns : tie.Need-returns
 unfolding ofBits
-returns c = when-zero (c .before .args .x) (c .if1 .taken)
+returns c = when-zero (c .before .args .x) (c .before .good .0 .1) (c .if1 .taken)
 
 returns-2 : tie.Need-returns-2
 unfolding ofBits
