@@ -3,18 +3,6 @@ use borrow.Author.Needs.{needs}
 use Rattle.allpass.proofs.allpass4.Statement.{statement}
 use Rattle.allpass.proofs.allpass4.Tie as tie
 
-allpass-requires : tie.Need-allpass-requires
-allpass-requires c κs = search needs
-
-allpass-requires-2 : tie.Need-allpass-requires-2
-allpass-requires-2 c κs = search needs
-
-allpass-requires-3 : tie.Need-allpass-requires-3
-allpass-requires-3 c κs = search needs
-
-allpass-requires-4 : tie.Need-allpass-requires-4
-allpass-requires-4 c κs = search needs
-
 returns : tie.Need-returns
 returns c =
     let one = c .before .before .before .allpass .ensures in
@@ -26,4 +14,4 @@ returns c =
 pub allpass4-spec : {M : Type 1} → statement M
 allpass4-spec =
     tie.close
-    (tie.spec allpass-requires allpass-requires-2 allpass-requires-3 allpass-requires-4 returns)
+    (tie.spec (λ c κs. search needs) (λ c κs. search needs) (λ c κs. search needs) (λ c κs. search needs) returns)

@@ -34,12 +34,9 @@ returns-2 : tie.Need-returns-2
 unfolding partsFit
 returns-2 c = let a = c .before .before .args in no-rings (a .f) (a .at) (a .lx) (a .ly) (a .l) (omega arith)
 
-and-requires : tie.Need-and-requires
-and-requires c κs = search needs
-
 returns-3 : tie.Need-returns-3
 unfolding partsFit
 returns-3 c = let a = c .before .before .before .args in c .and .ensures ∙ y-ring (a .f) (a .at) (a .lx) (a .ly) (a .l) (omega arith) (omega arith)
 
 pub parts-fit-spec : {M : Type 1} → statement M
-parts-fit-spec = tie.close (tie.spec returns returns-2 and-requires returns-3)
+parts-fit-spec = tie.close (tie.spec returns returns-2 (λ c κs. search needs) returns-3)

@@ -38,36 +38,6 @@ module _ (t at lx ly : ℕ) (cx cy : Cursors) (w : List Float) (fits : at + (lx 
       let inner : putMid at (at + (lx + ly) - at) w z ≡ over at (bothRings e) w = back at (lx + ly) w z ∙ rw (z′, le) in
       (r′, ew ∙ (λ i. over t (listOf (r′ i .y)) (inner i)))
 
-add-end : tie.Need-add-end
-add-end c = search needs
-
-add-end-2 : tie.Need-add-end-2
-add-end-2 c = search needs
-
-read-four-requires : tie.Need-read-four-requires
-read-four-requires c κs = search needs
-
-mul-turn : tie.Need-mul-turn
-mul-turn c = search needs
-
-sub-turn : tie.Need-sub-turn
-sub-turn c = search needs
-
-part-turn-start : tie.Need-part-turn-start
-part-turn-start c = search needs
-
-part-turn-end : tie.Need-part-turn-end
-part-turn-end c = search needs
-
-turn-requires : tie.Need-turn-requires
-turn-requires c κs = search needs
-
-store-four-requires : tie.Need-store-four-requires
-store-four-requires c κs = search needs
-
-same-length : tie.Need-same-length
-same-length c = search needs
-
 returns : tie.Need-returns
 returns c =
     let store = c .before .before in
@@ -82,14 +52,14 @@ pub pass-four-spec : {M : Type 1} → statement M
 pass-four-spec =
     tie.close
     (tie.spec
-    add-end
-    add-end-2
-    read-four-requires
-    mul-turn
-    sub-turn
-    part-turn-start
-    part-turn-end
-    turn-requires
-    store-four-requires
-    same-length
+    (λ c. search needs)
+    (λ c. search needs)
+    (λ c κs. search needs)
+    (λ c. search needs)
+    (λ c. search needs)
+    (λ c. search needs)
+    (λ c. search needs)
+    (λ c κs. search needs)
+    (λ c κs. search needs)
+    (λ c. search needs)
     returns)

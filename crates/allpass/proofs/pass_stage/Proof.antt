@@ -37,9 +37,6 @@ Inv-loop w₀ f at lx ly xs₀ ys₀ t₀ w xs ys t =
 abbrev μ-loop : tie.MeasureT-loop
 μ-loop w₀ f at lx ly xs₀ ys₀ t₀ w xs ys t = f - t
 
-parts-fit-requires : tie.Need-parts-fit-requires Inv-loop μ-loop
-parts-fit-requires c κs = search needs
-
 returns : tie.Need-returns Inv-loop μ-loop
 returns c =
     let a = c .before .before .before .args in
@@ -51,18 +48,6 @@ loop-holds c =
     let h = fit-parts (a .f) (a .at) (a .lx) (a .ly) (length (now (a .w))) (sym (c .before .parts-fit .ensures) ∙ not-false _ (c .if1 .left)) in
     (omega arith, h .row, h .rings, refl, rw sub-zero)
 
-add-loop : tie.Need-add-loop Inv-loop μ-loop
-add-loop c = search needs
-
-pass-four-requires : tie.Need-pass-four-requires Inv-loop μ-loop
-pass-four-requires c κs = search needs
-
-add-t : tie.Need-add-t Inv-loop μ-loop
-add-t c = search needs
-
-loop-less : tie.Need-loop-less Inv-loop μ-loop
-loop-less c = search needs
-
 loop-again : tie.Need-loop-again Inv-loop μ-loop
 loop-again c =
     let done = c .before .before .before .before in
@@ -71,9 +56,6 @@ loop-again c =
     let e = done .pass-four .ensures in
     let one = turn-left (a .f) (l .t) (a .at) (a .lx) (a .ly) (l .xs) (l .ys) (l .w) (omega arith) (omega arith) (omega arith) (e .0) (e .1) in
     (omega arith, omega arith, omega arith, omega arith, one ∙ l .inv .4)
-
-same-length : tie.Need-same-length Inv-loop μ-loop
-same-length c = search needs
 
 returns-2 : tie.Need-returns-2 Inv-loop μ-loop
 returns-2 c =
@@ -91,13 +73,13 @@ pass-stage-spec =
     (tie.spec
     Inv-loop
     μ-loop
-    parts-fit-requires
+    (λ c κs. search needs)
     returns
     loop-holds
-    add-loop
-    pass-four-requires
-    add-t
-    loop-less
+    (λ c. search needs)
+    (λ c κs. search needs)
+    (λ c. search needs)
+    (λ c. search needs)
     loop-again
-    same-length
+    (λ c. search needs)
     returns-2)

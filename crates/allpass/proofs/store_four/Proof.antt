@@ -22,41 +22,14 @@ four-stores w t y h =
     let three : t + 3 ≡ suc (suc (suc t)) = omega arith in
     rw (one, two, three) (sets-eq (listOf y) w t h ∙ append-assoc (take t w) (listOf y) (drop (t + 4) w))
 
-mul-w : tie.Need-mul-w
-mul-w c = search needs
-
-slice-write-w : tie.Need-slice-write-w
-slice-write-w c = search needs
-
-add-w : tie.Need-add-w
-add-w c = search needs
-
-mul-w-2 : tie.Need-mul-w-2
-mul-w-2 c = search needs
-
 slice-write-w-2 : tie.Need-slice-write-w-2
 slice-write-w-2 c = simp length-set (omega arith)
-
-add-w-2 : tie.Need-add-w-2
-add-w-2 c = search needs
-
-mul-w-3 : tie.Need-mul-w-3
-mul-w-3 c = search needs
 
 slice-write-w-3 : tie.Need-slice-write-w-3
 slice-write-w-3 c = simp length-set (omega arith)
 
-add-w-3 : tie.Need-add-w-3
-add-w-3 c = search needs
-
-mul-w-4 : tie.Need-mul-w-4
-mul-w-4 c = search needs
-
 slice-write-w-4 : tie.Need-slice-write-w-4
 slice-write-w-4 c = simp length-set (omega arith)
-
-same-length : tie.Need-same-length
-same-length c = search needs
 
 returns : tie.Need-returns
 returns c = four-stores _ _ (c .args .y) (c .pre)
@@ -65,16 +38,16 @@ pub store-four-spec : {M : Type 1} → statement M
 store-four-spec =
     tie.close
     (tie.spec
-    mul-w
-    slice-write-w
-    add-w
-    mul-w-2
+    (λ c. search needs)
+    (λ c. search needs)
+    (λ c. search needs)
+    (λ c. search needs)
     slice-write-w-2
-    add-w-2
-    mul-w-3
+    (λ c. search needs)
+    (λ c. search needs)
     slice-write-w-3
-    add-w-3
-    mul-w-4
+    (λ c. search needs)
+    (λ c. search needs)
     slice-write-w-4
-    same-length
+    (λ c. search needs)
     returns)

@@ -45,59 +45,11 @@ module _ (lx : ℕ) (cx cy : Cursors) (rings : List Float) (x : Four) (h : lx �
       let ys = ey′ ∙ (λ i. put4Ring (new .0 i) (got i .cursors) (out i)) in
       ((λ i. record { xs = cx′ i; ys = cy′ i; y = out i }), new .1 y′ ∙ (λ i. xs i ++ ys i))
 
-slice-reshare-prefix-get4 : tie.Need-slice-reshare-prefix-get4
-slice-reshare-prefix-get4 c = search needs
-
 slice-aggregate-get4 : tie.Need-slice-aggregate-get4
 slice-aggregate-get4 c = sym (length-take-le _ _ (c .before .before .pre))
 
-get4-requires : tie.Need-get4-requires
-get4-requires c κs = search needs
-
-mul-get4 : tie.Need-mul-get4
-mul-get4 c = search needs
-
-sub-get4 : tie.Need-sub-get4
-sub-get4 c = search needs
-
-part-get4-start : tie.Need-part-get4-start
-part-get4-start c = search needs
-
-part-get4-end : tie.Need-part-get4-end
-part-get4-end c = search needs
-
-get4-requires-2 : tie.Need-get4-requires-2
-get4-requires-2 c κs = search needs
-
-allpass4-requires : tie.Need-allpass4-requires
-allpass4-requires c κs = search needs
-
-slice-relend-prefix-put4 : tie.Need-slice-relend-prefix-put4
-slice-relend-prefix-put4 c = search needs
-
 slice-aggregate-put4 : tie.Need-slice-aggregate-put4
 slice-aggregate-put4 c = sym (length-take-le _ _ (c .before .before .before .before .before .before .before .before .pre))
-
-put4-requires : tie.Need-put4-requires
-put4-requires c κs = search needs
-
-mul-put4 : tie.Need-mul-put4
-mul-put4 c = search needs
-
-sub-put4 : tie.Need-sub-put4
-sub-put4 c = search needs
-
-part-put4-start : tie.Need-part-put4-start
-part-put4-start c = search needs
-
-part-put4-end : tie.Need-part-put4-end
-part-put4-end c = search needs
-
-put4-requires-2 : tie.Need-put4-requires-2
-put4-requires-2 c κs = search needs
-
-same-length : tie.Need-same-length
-same-length c = search needs
 
 returns : tie.Need-returns
 returns c =
@@ -116,22 +68,22 @@ pub turn-spec : {M : Type 1} → statement M
 turn-spec =
     tie.close
     (tie.spec
-    slice-reshare-prefix-get4
+    (λ c. search needs)
     slice-aggregate-get4
-    get4-requires
-    mul-get4
-    sub-get4
-    part-get4-start
-    part-get4-end
-    get4-requires-2
-    allpass4-requires
-    slice-relend-prefix-put4
+    (λ c κs. search needs)
+    (λ c. search needs)
+    (λ c. search needs)
+    (λ c. search needs)
+    (λ c. search needs)
+    (λ c κs. search needs)
+    (λ c κs. search needs)
+    (λ c. search needs)
     slice-aggregate-put4
-    put4-requires
-    mul-put4
-    sub-put4
-    part-put4-start
-    part-put4-end
-    put4-requires-2
-    same-length
+    (λ c κs. search needs)
+    (λ c. search needs)
+    (λ c. search needs)
+    (λ c. search needs)
+    (λ c. search needs)
+    (λ c κs. search needs)
+    (λ c. search needs)
     returns)

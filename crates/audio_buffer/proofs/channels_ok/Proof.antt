@@ -4,12 +4,9 @@ use Rattle.audio_buffer.specs.Judges.{channelsOk}
 use Rattle.audio_buffer.proofs.channels_ok.Statement.{statement}
 use Rattle.audio_buffer.proofs.channels_ok.Tie as tie
 
-and-requires : tie.Need-and-requires
-and-requires c κs = search needs
-
 returns : tie.Need-returns
 unfolding channelsOk
 returns c = search needs
 
 pub channels-ok-spec : {M : Type 1} → statement M
-channels-ok-spec = tie.close (tie.spec and-requires returns)
+channels-ok-spec = tie.close (tie.spec (λ c κs. search needs) returns)

@@ -10,12 +10,6 @@ use Rattle.audio_buffer.proofs.Laws.{counts-of}
 use Rattle.audio_buffer.proofs.judge_then.Statement.{statement}
 use Rattle.audio_buffer.proofs.judge_then.Tie as tie
 
-channels-ok-requires : tie.Need-channels-ok-requires
-channels-ok-requires c κs = search needs
-
-and-requires : tie.Need-and-requires
-and-requires c κs = search needs
-
 -- what the test of both counts says
 counts : (c : tie.After-and) → c .and .result ≡ (channelsOk (c .before .before .args .channels) && samplesOk (c .before .before .args .samples))
 counts c = and-of (c .and .ensures) (c .before .channels-ok .ensures) refl
@@ -24,9 +18,6 @@ mul-need : tie.Need-mul-need
 mul-need c =
     let a = c .before .before .before .args in
     omega (arith, counts-of (a .channels) (a .samples) (sym (counts (c .before)) ∙ c .if1 .taken))
-
-need-requires : tie.Need-need-requires
-need-requires c κs = search needs
 
 returns : tie.Need-returns
 unfolding judgedThen
@@ -38,4 +29,4 @@ returns-2 c = need-of {ok = false} BadIndex refl (sym (c .if1 .left) ∙ counts 
 
 pub judge-then-spec : {M : Type 1} → statement M
 judge-then-spec =
-    tie.close (tie.spec channels-ok-requires and-requires mul-need need-requires returns returns-2)
+    tie.close (tie.spec (λ c κs. search needs) (λ c κs. search needs) mul-need (λ c κs. search needs) returns returns-2)

@@ -7,20 +7,11 @@ use native.Mathlib.Nat.{mul-comm}
 use Rattle.audio_buffer.proofs.read_interleaved.Statement.{statement}
 use Rattle.audio_buffer.proofs.read_interleaved.Tie as tie
 
-judge-two-requires : tie.Need-judge-two-requires
-judge-two-requires c κs = search needs
-
-is-accepted-requires : tie.Need-is-accepted-requires
-is-accepted-requires c κs = search needs
-
 transpose-requires : tie.Need-transpose-requires
 transpose-requires c κs =
     let t = c .before in
     let p = two-of _ _ _ _ (let-by (t .before .before .judge-two .ensures) (t .before .is-accepted .ensures) (t .if1 .taken)) in
     (p .0 ∙ mul-comm _ _, p .1 ∙ mul-comm _ _)
-
-same-length : tie.Need-same-length
-same-length c = search needs
 
 returns : tie.Need-returns
 returns c =
@@ -35,9 +26,9 @@ pub read-interleaved-spec : {M : Type 1} → statement M
 read-interleaved-spec =
     tie.close
     (tie.spec
-    judge-two-requires
-    is-accepted-requires
+    (λ c κs. search needs)
+    (λ c κs. search needs)
     transpose-requires
-    same-length
+    (λ c. search needs)
     returns
     returns-2)

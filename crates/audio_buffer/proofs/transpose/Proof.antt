@@ -73,12 +73,6 @@ add-at c = omega (arith, within (c .before))
 add-from : tie.Need-add-from Inv-loop2 μ-loop2 Inv-loop μ-loop
 add-from c = omega (arith, within (c .before))
 
-add-r : tie.Need-add-r Inv-loop2 μ-loop2 Inv-loop μ-loop
-add-r c = search needs
-
-loop2-less : tie.Need-loop2-less Inv-loop2 μ-loop2 Inv-loop μ-loop
-loop2-less c = search needs
-
 loop2-again : tie.Need-loop2-again Inv-loop2 μ-loop2 Inv-loop μ-loop
 loop2-again c =
     let l = c .before .before .loop2 in
@@ -91,21 +85,12 @@ loop2-again c =
       stored (l .target) (l .at) nan (omega (arith, within (c .before))) _ refl ∙ (rw e at (l .inv .4)),
     )
 
-add-t : tie.Need-add-t Inv-loop2 μ-loop2 Inv-loop μ-loop
-add-t c = search needs
-
-loop-less : tie.Need-loop-less Inv-loop2 μ-loop2 Inv-loop μ-loop
-loop-less c = search needs
-
 loop-again : tie.Need-loop-again Inv-loop2 μ-loop2 Inv-loop μ-loop
 loop-again c =
     let l = c .before .loop2 in
     let a = c .before .before .before .before .args in
     let done : a .rows - l .r ≡ 0 = omega arith in
     (omega arith, l .inv .1, omega (arith, add-mul (c .before .before .before .loop .t) 1 (a .rows)), rw done at (l .inv .4))
-
-same-length : tie.Need-same-length Inv-loop2 μ-loop2 Inv-loop μ-loop
-same-length c = search needs
 
 returns : tie.Need-returns Inv-loop2 μ-loop2 Inv-loop μ-loop
 returns c =
@@ -131,11 +116,11 @@ transpose-spec =
     slice-write-target
     add-at
     add-from
-    add-r
-    loop2-less
+    (λ c. search needs)
+    (λ c. search needs)
     loop2-again
-    add-t
-    loop-less
+    (λ c. search needs)
+    (λ c. search needs)
     loop-again
-    same-length
+    (λ c. search needs)
     returns)

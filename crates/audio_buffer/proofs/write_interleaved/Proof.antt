@@ -5,19 +5,10 @@ use Rattle.audio_buffer.proofs.Laws.{two-of}
 use Rattle.audio_buffer.proofs.write_interleaved.Statement.{statement}
 use Rattle.audio_buffer.proofs.write_interleaved.Tie as tie
 
-judge-two-requires : tie.Need-judge-two-requires
-judge-two-requires c κs = search needs
-
-is-accepted-requires : tie.Need-is-accepted-requires
-is-accepted-requires c κs = search needs
-
 transpose-requires : tie.Need-transpose-requires
 transpose-requires c κs =
     let t = c .before in
     two-of _ _ _ _ (let-by (t .before .before .judge-two .ensures) (t .before .is-accepted .ensures) (t .if1 .taken))
-
-same-length : tie.Need-same-length
-same-length c = search needs
 
 returns : tie.Need-returns
 returns c =
@@ -32,9 +23,9 @@ pub write-interleaved-spec : {M : Type 1} → statement M
 write-interleaved-spec =
     tie.close
     (tie.spec
-    judge-two-requires
-    is-accepted-requires
+    (λ c κs. search needs)
+    (λ c κs. search needs)
     transpose-requires
-    same-length
+    (λ c. search needs)
     returns
     returns-2)

@@ -22,12 +22,6 @@ upto c =
     rw (c .before .nearest-u32-to-f32 .ensures, c .nearest-u32-to-f322 .ensures)
     (frames-upto (a .args .time) (a .args .rate) (a .args .frame) (time-upto (a .args .time) (a .pre .0)) (a .pre .1 .0) (a .pre .1 .1) (a .pre .1 .2))
 
-nearest-u32-to-f32-requires : tie.Need-nearest-u32-to-f32-requires
-nearest-u32-to-f32-requires c κs = search needs
-
-nearest-u32-to-f32-requires-2 : tie.Need-nearest-u32-to-f32-requires-2
-nearest-u32-to-f32-requires-2 c κs = search needs
-
 truncating-f32-to-u64-requires : tie.Need-truncating-f32-to-u64-requires
 truncating-f32-to-u64-requires c κs = cut-asks _ 4800000 (omega arith) (upto c)
 
@@ -36,9 +30,6 @@ whole c = rw (c .truncating-f32-to-u64 .ensures) (whole-upto _ 4800000 (upto (c 
 
 cast-whole : tie.Need-cast-whole
 cast-whole c = omega (arith, whole c)
-
-nearest-u32-to-f32-requires-3 : tie.Need-nearest-u32-to-f32-requires-3
-nearest-u32-to-f32-requires-3 c κs = search needs
 
 add-result : tie.Need-add-result
 add-result c = omega (arith, whole (c .before .before))
@@ -63,11 +54,11 @@ pub frames-in-spec : {M : Type 1} → statement M
 frames-in-spec =
     tie.close
     (tie.spec
-    nearest-u32-to-f32-requires
-    nearest-u32-to-f32-requires-2
+    (λ c κs. search needs)
+    (λ c κs. search needs)
     truncating-f32-to-u64-requires
     cast-whole
-    nearest-u32-to-f32-requires-3
+    (λ c κs. search needs)
     add-result
     returns
     returns-2)

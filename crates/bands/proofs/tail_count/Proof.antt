@@ -14,15 +14,6 @@ use Rattle.bands.proofs.Tail.{Counts, counts, count-yes}
 use Rattle.bands.proofs.tail_count.Statement.{statement}
 use Rattle.bands.proofs.tail_count.Tie as tie
 
-judge-requires : tie.Need-judge-requires
-judge-requires c κs = search needs
-
-is-accepted-requires : tie.Need-is-accepted-requires
-is-accepted-requires c κs = search needs
-
-largest-requires : tie.Need-largest-requires
-largest-requires c κs = search needs
-
 yes : (c : tie.Then1) → let a = c .before .before .before .args in judgedCount (a .t) (a .rate) (a .frame) ≡ Accepted
 yes c = let-by (c .before .before .judge .ensures) (c .before .is-accepted .ensures) (c .if1 .taken)
 
@@ -34,12 +25,6 @@ cast-frames-in c = let k = known (c .before) .frames in omega arith
 
 frames-in-requires : tie.Need-frames-in-requires
 frames-in-requires c κs = let k = known (c .before) in (rw (c .largest .ensures) (k .time), (k .rates .hi, k .frames .lo, k .frames .hi))
-
-mul-t9 : tie.Need-mul-t9
-mul-t9 c = search needs
-
-cast-t10 : tie.Need-cast-t10
-cast-t10 c = search needs
 
 -- twice the frames is the count
 twice : (c : tie.After-frames-in) → let a = c .before .before .before .before .before .args in toZ w32 (2 * c .frames-in .result) ≡ pos (countOf (a .t) (a .rate) (a .frame))
@@ -62,12 +47,12 @@ pub tail-count-spec : {M : Type 1} → statement M
 tail-count-spec =
     tie.close
     (tie.spec
-    judge-requires
-    is-accepted-requires
-    largest-requires
+    (λ c κs. search needs)
+    (λ c κs. search needs)
+    (λ c κs. search needs)
     cast-frames-in
     frames-in-requires
-    mul-t9
-    cast-t10
+    (λ c. search needs)
+    (λ c. search needs)
     returns
     returns-2)

@@ -4,12 +4,9 @@ use Rattle.bands.specs.Times.{timeOk}
 use Rattle.bands.proofs.time_ok.Statement.{statement}
 use Rattle.bands.proofs.time_ok.Tie as tie
 
-and-requires : tie.Need-and-requires
-and-requires c κs = search needs
-
 returns : tie.Need-returns
 unfolding timeOk
 returns c = c .and .ensures
 
 pub time-ok-spec : {M : Type 1} → statement M
-time-ok-spec = tie.close (tie.spec and-requires returns)
+time-ok-spec = tie.close (tie.spec (λ c κs. search needs) returns)

@@ -13,15 +13,6 @@ use Rattle.closing.specs.Close.{shut, cleared}
 use Rattle.closing.proofs.abandon.Statement.{statement}
 use Rattle.closing.proofs.abandon.Tie as tie
 
-judge-abandon-requires : tie.Need-judge-abandon-requires
-judge-abandon-requires c κs = search needs
-
-is-accepted-requires : tie.Need-is-accepted-requires
-is-accepted-requires c κs = search needs
-
-quiet-requires : tie.Need-quiet-requires
-quiet-requires c κs = search needs
-
 returns : tie.Need-returns
 returns c =
     let tested = c .before .before in
@@ -35,18 +26,6 @@ returns c =
       c .quiet .ensures ∙ (λ i. outcome (e i) (old-left _ b _ e t (shut wall old) old h i) TailComplete),
       old-left _ b _ e t (cleared (now (a .work))) (now (a .work)) h,
     )
-
-clear-requires : tie.Need-clear-requires
-clear-requires c κs = search needs
-
-shut-requires : tie.Need-shut-requires
-shut-requires c κs = search needs
-
-quiet-requires-2 : tie.Need-quiet-requires-2
-quiet-requires-2 c κs = search needs
-
-same-length : tie.Need-same-length
-same-length c = search needs
 
 returns-2 : tie.Need-returns-2
 returns-2 c =
@@ -69,12 +48,12 @@ pub abandon-spec : {M : Type 1} → statement M
 abandon-spec =
     tie.close
     (tie.spec
-    judge-abandon-requires
-    is-accepted-requires
-    quiet-requires
+    (λ c κs. search needs)
+    (λ c κs. search needs)
+    (λ c κs. search needs)
     returns
-    clear-requires
-    shut-requires
-    quiet-requires-2
-    same-length
+    (λ c κs. search needs)
+    (λ c κs. search needs)
+    (λ c κs. search needs)
+    (λ c. search needs)
     returns-2)

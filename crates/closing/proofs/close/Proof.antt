@@ -16,15 +16,6 @@ use Rattle.closing.proofs.Closed.{all-as-was, as-ended}
 use Rattle.closing.proofs.close.Statement.{statement}
 use Rattle.closing.proofs.close.Tie as tie
 
-judge-close-requires : tie.Need-judge-close-requires
-judge-close-requires c κs = search needs
-
-is-accepted-requires : tie.Need-is-accepted-requires
-is-accepted-requires c κs = search needs
-
-quiet-requires : tie.Need-quiet-requires
-quiet-requires c κs = search needs
-
 returns : tie.Need-returns
 returns c =
     let tested = c .before .before in
@@ -35,21 +26,6 @@ returns c =
     let e = judged .judge-close .ensures in
     let turned = refused _ due _ e (tested .is-accepted .ensures) (c .before .if1 .taken) in
     all-as-was u due _ (rowsOf wall (u .frame) (now (a .work))) _ (now (a .store)) (now (a .work)) (now (a .output)) turned e (c .quiet .ensures)
-
-close-frame-requires : tie.Need-close-frame-requires
-close-frame-requires c κs = search needs
-
-concluded-requires : tie.Need-concluded-requires
-concluded-requires c κs = search needs
-
-same-length : tie.Need-same-length
-same-length c = search needs
-
-same-length-2 : tie.Need-same-length-2
-same-length-2 c = search needs
-
-same-length-3 : tie.Need-same-length-3
-same-length-3 c = search needs
 
 returns-2 : tie.Need-returns-2
 returns-2 c =
@@ -73,13 +49,13 @@ pub close-spec : {M : Type 1} → statement M
 close-spec =
     tie.close
     (tie.spec
-    judge-close-requires
-    is-accepted-requires
-    quiet-requires
+    (λ c κs. search needs)
+    (λ c κs. search needs)
+    (λ c κs. search needs)
     returns
-    close-frame-requires
-    concluded-requires
-    same-length
-    same-length-2
-    same-length-3
+    (λ c κs. search needs)
+    (λ c κs. search needs)
+    (λ c. search needs)
+    (λ c. search needs)
+    (λ c. search needs)
     returns-2)

@@ -6,12 +6,6 @@ use Rattle.delay.proofs.Laws.{wrap-lo, wrap-hi}
 use Rattle.delay.proofs.advance.Statement.{statement}
 use Rattle.delay.proofs.advance.Tie as tie
 
-sub-left : tie.Need-sub-left
-sub-left c = search needs
-
-add-result : tie.Need-add-result
-add-result c = search needs
-
 returns : tie.Need-returns
 returns c =
     let a = c .before .args in
@@ -23,4 +17,4 @@ returns-2 c =
     (omega (arith, wrap-hi (a .l) (a .at + a .n) (omega arith)), omega arith)
 
 pub advance-spec : {M : Type 1} → statement M
-advance-spec = tie.close (tie.spec sub-left add-result returns returns-2)
+advance-spec = tie.close (tie.spec (λ c. search needs) (λ c. search needs) returns returns-2)

@@ -4,22 +4,10 @@ use Rattle.delay.specs.Ring.{ahead}
 use Rattle.delay.proofs.four_on.Statement.{statement}
 use Rattle.delay.proofs.four_on.Tie as tie
 
-next-requires : tie.Need-next-requires
-next-requires c κs = search needs
-
-next-requires-2 : tie.Need-next-requires-2
-next-requires-2 c κs = search needs
-
-next-requires-3 : tie.Need-next-requires-3
-next-requires-3 c κs = search needs
-
-next-requires-4 : tie.Need-next-requires-4
-next-requires-4 c κs = search needs
-
 returns : tie.Need-returns
 unfolding ahead
 returns c = simp (c .next4 .ensures .0, c .before .next3 .ensures .0, c .before .before .next2 .ensures .0, c .before .before .before .next .ensures .0)
 
 pub four-on-spec : {M : Type 1} → statement M
 four-on-spec =
-    tie.close (tie.spec next-requires next-requires-2 next-requires-3 next-requires-4 returns)
+    tie.close (tie.spec (λ c κs. search needs) (λ c κs. search needs) (λ c κs. search needs) (λ c κs. search needs) returns)

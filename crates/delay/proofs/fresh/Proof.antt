@@ -9,18 +9,6 @@ use Rattle.delay.specs.Calls.{both, silent, judgedLength}
 use Rattle.delay.proofs.fresh.Statement.{statement}
 use Rattle.delay.proofs.fresh.Tie as tie
 
-length-ok-requires : tie.Need-length-ok-requires
-length-ok-requires c κs = search needs
-
-need-requires : tie.Need-need-requires
-need-requires c κs = search needs
-
-silence-requires : tie.Need-silence-requires
-silence-requires c κs = search needs
-
-same-length : tie.Need-same-length
-same-length c = search needs
-
 returns : tie.Need-returns
 returns c =
     let judged = c .before .before .before .before in
@@ -30,4 +18,4 @@ returns c =
 
 pub fresh-spec : {M : Type 1} → statement M
 fresh-spec =
-    tie.close (tie.spec length-ok-requires need-requires silence-requires same-length returns)
+    tie.close (tie.spec (λ c κs. search needs) (λ c κs. search needs) (λ c κs. search needs) (λ c. search needs) returns)

@@ -12,12 +12,6 @@ use Rattle.delay.proofs.Ends.{refused4, done4}
 use Rattle.delay.proofs.get4.Statement.{statement}
 use Rattle.delay.proofs.get4.Tie as tie
 
-judge-requires : tie.Need-judge-requires
-judge-requires c κs = search needs
-
-is-accepted-requires : tie.Need-is-accepted-requires
-is-accepted-requires c κs = search needs
-
 ready : (c : tie.Else1) → let start = c .before .before .before .before in Ready (length (now (start .args .ring))) (start .args .c)
 ready c = judged-ok _ _ (let-by (c .before .before .judge .ensures) (c .before .is-accepted .ensures) (not-false _ (c .if1 .left)))
 
@@ -42,8 +36,8 @@ pub get4-spec : {M : Type 1} → statement M
 get4-spec =
     tie.close
     (tie.spec
-    judge-requires
-    is-accepted-requires
+    (λ c κs. search needs)
+    (λ c κs. search needs)
     returns
     read-four-requires
     four-on-requires

@@ -7,18 +7,6 @@ use Rattle.delay.specs.Calls.{cursorsOk}
 use Rattle.delay.proofs.judge.Statement.{statement}
 use Rattle.delay.proofs.judge.Tie as tie
 
-and-requires : tie.Need-and-requires
-and-requires c κs = search needs
-
-length-ok-requires : tie.Need-length-ok-requires
-length-ok-requires c κs = search needs
-
-need-requires : tie.Need-need-requires
-need-requires c κs = search needs
-
-need-requires-2 : tie.Need-need-requires-2
-need-requires-2 c κs = search needs
-
 returns : tie.Need-returns
 unfolding cursorsOk
 returns c =
@@ -27,4 +15,4 @@ returns c =
 
 pub judge-spec : {M : Type 1} → statement M
 judge-spec =
-    tie.close (tie.spec and-requires length-ok-requires need-requires need-requires-2 returns)
+    tie.close (tie.spec (λ c κs. search needs) (λ c κs. search needs) (λ c κs. search needs) (λ c κs. search needs) returns)

@@ -7,15 +7,6 @@ use Rattle.delay.specs.Calls.{countOk, judgedThen}
 use Rattle.delay.proofs.judge_count.Statement.{statement}
 use Rattle.delay.proofs.judge_count.Tie as tie
 
-and-requires : tie.Need-and-requires
-and-requires c κs = search needs
-
-need-requires : tie.Need-need-requires
-need-requires c κs = search needs
-
-judge-requires : tie.Need-judge-requires
-judge-requires c κs = search needs
-
 returns : tie.Need-returns
 unfolding countOk
 returns c =
@@ -23,4 +14,4 @@ returns c =
     c .judge .ensures ∙ ap (judgedThen (start .args .l) (start .args .c)) (need-of BadIndex (c .before .need .ensures) (c .before .before .and .ensures) refl)
 
 pub judge-count-spec : {M : Type 1} → statement M
-judge-count-spec = tie.close (tie.spec and-requires need-requires judge-requires returns)
+judge-count-spec = tie.close (tie.spec (λ c κs. search needs) (λ c κs. search needs) (λ c κs. search needs) returns)

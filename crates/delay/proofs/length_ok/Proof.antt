@@ -4,12 +4,9 @@ use Rattle.delay.specs.Calls.{lengthOk}
 use Rattle.delay.proofs.length_ok.Statement.{statement}
 use Rattle.delay.proofs.length_ok.Tie as tie
 
-and-requires : tie.Need-and-requires
-and-requires c κs = search needs
-
 returns : tie.Need-returns
 unfolding lengthOk
 returns c = search needs
 
 pub length-ok-spec : {M : Type 1} → statement M
-length-ok-spec = tie.close (tie.spec and-requires returns)
+length-ok-spec = tie.close (tie.spec (λ c κs. search needs) returns)

@@ -12,12 +12,6 @@ use Rattle.delay.proofs.Ends.{refused, done}
 use Rattle.delay.proofs.put.Statement.{statement}
 use Rattle.delay.proofs.put.Tie as tie
 
-judge-count-requires : tie.Need-judge-count-requires
-judge-count-requires c κs = search needs
-
-is-accepted-requires : tie.Need-is-accepted-requires
-is-accepted-requires c κs = search needs
-
 moves : (c : tie.Else1) → let start = c .before .before .before .before .before in Moves (length (now (start .args .ring))) (start .args .c) (length (now (start .args .xs)))
 moves c = count-ok _ _ _ (let-by (c .before .before .judge-count .ensures) (c .before .is-accepted .ensures) (not-false _ (c .if1 .left)))
 
@@ -29,9 +23,6 @@ write-each-requires c κs = let m = moves (c .before .before) in omega (arith, m
 
 advance-requires : tie.Need-advance-requires
 advance-requires c κs = let m = moves (c .before .before .before .before .before) in omega (arith, m .ready)
-
-same-length : tie.Need-same-length
-same-length c = search needs
 
 returns-2 : tie.Need-returns-2
 returns-2 c =
@@ -46,10 +37,10 @@ pub put-spec : {M : Type 1} → statement M
 put-spec =
     tie.close
     (tie.spec
-    judge-count-requires
-    is-accepted-requires
+    (λ c κs. search needs)
+    (λ c κs. search needs)
     returns
     write-each-requires
     advance-requires
-    same-length
+    (λ c. search needs)
     returns-2)

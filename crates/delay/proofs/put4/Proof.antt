@@ -12,12 +12,6 @@ use Rattle.delay.proofs.Ends.{refused, done}
 use Rattle.delay.proofs.put4.Statement.{statement}
 use Rattle.delay.proofs.put4.Tie as tie
 
-judge-requires : tie.Need-judge-requires
-judge-requires c κs = search needs
-
-is-accepted-requires : tie.Need-is-accepted-requires
-is-accepted-requires c κs = search needs
-
 ready : (c : tie.Else1) → let start = c .before .before .before .before in Ready (length (now (start .args .ring))) (start .args .c)
 ready c = judged-ok _ _ (let-by (c .before .before .judge .ensures) (c .before .is-accepted .ensures) (not-false _ (c .if1 .left)))
 
@@ -29,9 +23,6 @@ write-four-requires c κs = let r = ready (c .before .before) in omega arith
 
 four-on-requires : tie.Need-four-on-requires
 four-on-requires c κs = let r = ready (c .before .before .before .before .before) in omega arith
-
-same-length : tie.Need-same-length
-same-length c = search needs
 
 returns-2 : tie.Need-returns-2
 returns-2 c =
@@ -46,10 +37,10 @@ pub put4-spec : {M : Type 1} → statement M
 put4-spec =
     tie.close
     (tie.spec
-    judge-requires
-    is-accepted-requires
+    (λ c κs. search needs)
+    (λ c κs. search needs)
     returns
     write-four-requires
     four-on-requires
-    same-length
+    (λ c. search needs)
     returns-2)

@@ -6,15 +6,6 @@ use Rattle.delay.specs.Calls.{silent}
 use Rattle.delay.proofs.reset.Statement.{statement}
 use Rattle.delay.proofs.reset.Tie as tie
 
-judge-requires : tie.Need-judge-requires
-judge-requires c κs = search needs
-
-silence-requires : tie.Need-silence-requires
-silence-requires c κs = search needs
-
-same-length : tie.Need-same-length
-same-length c = search needs
-
 returns : tie.Need-returns
 returns c =
     let judged = c .before .before .before .before in
@@ -23,4 +14,4 @@ returns c =
     (λ i. record { answer = e i; cursors = start .args .c }, c .before .before .silence .ensures ∙ (λ i. silent (e i) (now (start .args .ring))))
 
 pub reset-spec : {M : Type 1} → statement M
-reset-spec = tie.close (tie.spec judge-requires silence-requires same-length returns)
+reset-spec = tie.close (tie.spec (λ c κs. search needs) (λ c κs. search needs) (λ c. search needs) returns)

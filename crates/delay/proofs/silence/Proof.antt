@@ -5,15 +5,6 @@ use Rattle.samples.proofs.Laws.{new-made, old-left}
 use Rattle.delay.proofs.silence.Statement.{statement}
 use Rattle.delay.proofs.silence.Tie as tie
 
-is-accepted-requires : tie.Need-is-accepted-requires
-is-accepted-requires c κs = search needs
-
-clear-requires : tie.Need-clear-requires
-clear-requires c κs = search needs
-
-same-length : tie.Need-same-length
-same-length c = search needs
-
 returns : tie.Need-returns
 returns c =
     let tested = c .before .before .before .before in
@@ -24,4 +15,4 @@ returns-2 c = old-left {a = c .before .before .before .args .a} refl (c .before 
 
 pub silence-spec : {M : Type 1} → statement M
 silence-spec =
-    tie.close (tie.spec is-accepted-requires clear-requires same-length returns returns-2)
+    tie.close (tie.spec (λ c κs. search needs) (λ c κs. search needs) (λ c. search needs) returns returns-2)

@@ -20,30 +20,6 @@ Inv-loop ring₀ at xs j₀ i₀ i-end ring j i =
 abbrev μ-loop : tie.MeasureT-loop
 μ-loop ring₀ at xs j₀ i₀ i-end ring j i = length xs - i
 
-loop-holds : tie.Need-loop-holds Inv-loop μ-loop
-loop-holds c = search needs
-
-mul-ring : tie.Need-mul-ring Inv-loop μ-loop
-mul-ring c = search needs
-
-shared-slice-read-ring : tie.Need-shared-slice-read-ring Inv-loop μ-loop
-shared-slice-read-ring c = search needs
-
-mul-ring-2 : tie.Need-mul-ring-2 Inv-loop μ-loop
-mul-ring-2 c = search needs
-
-slice-write-ring : tie.Need-slice-write-ring Inv-loop μ-loop
-slice-write-ring c = search needs
-
-next-requires : tie.Need-next-requires Inv-loop μ-loop
-next-requires c κs = search needs
-
-add-i : tie.Need-add-i Inv-loop μ-loop
-add-i c = search needs
-
-loop-less : tie.Need-loop-less Inv-loop μ-loop
-loop-less c = search needs
-
 loop-again : tie.Need-loop-again Inv-loop μ-loop
 unfolding writeEach
 loop-again c =
@@ -56,9 +32,6 @@ loop-again c =
       simp length-set (l .inv .2),
       rw (c .next .ensures .0, length-set) (rw (next xs (l .i) nan (omega arith)) at (l .inv .3)),
     )
-
-same-length : tie.Need-same-length Inv-loop μ-loop
-same-length c = search needs
 
 returns : tie.Need-returns Inv-loop μ-loop
 unfolding writeEach
@@ -74,14 +47,14 @@ write-each-spec =
     (tie.spec
     Inv-loop
     μ-loop
-    loop-holds
-    mul-ring
-    shared-slice-read-ring
-    mul-ring-2
-    slice-write-ring
-    next-requires
-    add-i
-    loop-less
+    (λ c. search needs)
+    (λ c. search needs)
+    (λ c. search needs)
+    (λ c. search needs)
+    (λ c. search needs)
+    (λ c κs. search needs)
+    (λ c. search needs)
+    (λ c. search needs)
     loop-again
-    same-length
+    (λ c. search needs)
     returns)

@@ -20,76 +20,28 @@ Inv-loop coefficients fs₀ k₀ i₀ fs k i =
 abbrev μ-loop : tie.MeasureT-loop
 μ-loop coefficients fs₀ k₀ i₀ fs k i = 51 - i
 
-new-from-coefficients-requires : tie.Need-new-from-coefficients-requires Inv-loop μ-loop
-new-from-coefficients-requires c κs = search needs
-
 loop-holds : tie.Need-loop-holds Inv-loop μ-loop
 loop-holds c = (search needs, refl, search needs, refl)
-
-mul-new-from-coefficients : tie.Need-mul-new-from-coefficients Inv-loop μ-loop
-mul-new-from-coefficients c = search needs
 
 shared-slice-read-new-from-coefficients :
     tie.Need-shared-slice-read-new-from-coefficients Inv-loop μ-loop
 shared-slice-read-new-from-coefficients c = search needs
 
-add-new-from-coefficients : tie.Need-add-new-from-coefficients Inv-loop μ-loop
-add-new-from-coefficients c = search needs
-
-mul-new-from-coefficients-2 : tie.Need-mul-new-from-coefficients-2 Inv-loop μ-loop
-mul-new-from-coefficients-2 c = search needs
-
 shared-slice-read-new-from-coefficients-2 :
     tie.Need-shared-slice-read-new-from-coefficients-2 Inv-loop μ-loop
 shared-slice-read-new-from-coefficients-2 c = search needs
-
-add-new-from-coefficients-2 : tie.Need-add-new-from-coefficients-2 Inv-loop μ-loop
-add-new-from-coefficients-2 c = search needs
-
-mul-new-from-coefficients-3 : tie.Need-mul-new-from-coefficients-3 Inv-loop μ-loop
-mul-new-from-coefficients-3 c = search needs
 
 shared-slice-read-new-from-coefficients-3 :
     tie.Need-shared-slice-read-new-from-coefficients-3 Inv-loop μ-loop
 shared-slice-read-new-from-coefficients-3 c = search needs
 
-add-new-from-coefficients-3 : tie.Need-add-new-from-coefficients-3 Inv-loop μ-loop
-add-new-from-coefficients-3 c = search needs
-
-mul-new-from-coefficients-4 : tie.Need-mul-new-from-coefficients-4 Inv-loop μ-loop
-mul-new-from-coefficients-4 c = search needs
-
 shared-slice-read-new-from-coefficients-4 :
     tie.Need-shared-slice-read-new-from-coefficients-4 Inv-loop μ-loop
 shared-slice-read-new-from-coefficients-4 c = search needs
 
-add-new-from-coefficients-4 : tie.Need-add-new-from-coefficients-4 Inv-loop μ-loop
-add-new-from-coefficients-4 c = search needs
-
-mul-new-from-coefficients-5 : tie.Need-mul-new-from-coefficients-5 Inv-loop μ-loop
-mul-new-from-coefficients-5 c = search needs
-
 shared-slice-read-new-from-coefficients-5 :
     tie.Need-shared-slice-read-new-from-coefficients-5 Inv-loop μ-loop
 shared-slice-read-new-from-coefficients-5 c = search needs
-
-new-from-coefficients-requires-2 : tie.Need-new-from-coefficients-requires-2 Inv-loop μ-loop
-new-from-coefficients-requires-2 c κs = search needs
-
-mul-fs : tie.Need-mul-fs Inv-loop μ-loop
-mul-fs c = search needs
-
-array-set-from-fs : tie.Need-array-set-from-fs Inv-loop μ-loop
-array-set-from-fs c = search needs
-
-add-k : tie.Need-add-k Inv-loop μ-loop
-add-k c = search needs
-
-add-i : tie.Need-add-i Inv-loop μ-loop
-add-i c = search needs
-
-loop-less : tie.Need-loop-less Inv-loop μ-loop
-loop-less c = search needs
 
 loop-again : tie.Need-loop-again Inv-loop μ-loop
 loop-again c =
@@ -115,27 +67,27 @@ filters-from-spec =
     (tie.spec
     Inv-loop
     μ-loop
-    new-from-coefficients-requires
+    (λ c κs. search needs)
     loop-holds
-    mul-new-from-coefficients
+    (λ c. search needs)
     shared-slice-read-new-from-coefficients
-    add-new-from-coefficients
-    mul-new-from-coefficients-2
+    (λ c. search needs)
+    (λ c. search needs)
     shared-slice-read-new-from-coefficients-2
-    add-new-from-coefficients-2
-    mul-new-from-coefficients-3
+    (λ c. search needs)
+    (λ c. search needs)
     shared-slice-read-new-from-coefficients-3
-    add-new-from-coefficients-3
-    mul-new-from-coefficients-4
+    (λ c. search needs)
+    (λ c. search needs)
     shared-slice-read-new-from-coefficients-4
-    add-new-from-coefficients-4
-    mul-new-from-coefficients-5
+    (λ c. search needs)
+    (λ c. search needs)
     shared-slice-read-new-from-coefficients-5
-    new-from-coefficients-requires-2
-    mul-fs
-    array-set-from-fs
-    add-k
-    add-i
-    loop-less
+    (λ c κs. search needs)
+    (λ c. search needs)
+    (λ c. search needs)
+    (λ c. search needs)
+    (λ c. search needs)
+    (λ c. search needs)
     loop-again
     returns)

@@ -6,17 +6,11 @@ use lib.ListN.{replicate}
 use Rattle.filters.proofs.filters_of.Statement.{statement}
 use Rattle.filters.proofs.filters_of.Tie as tie
 
-new-from-coefficients-requires : tie.Need-new-from-coefficients-requires
-new-from-coefficients-requires c κs = search needs
-
 returns : tie.Need-returns
 returns c =
     let h = c .before .if1 .taken in
     let e = c .new-from-coefficients .ensures in
     rw (ne-eqb _ 255 h) (ap (replicate 51) e)
-
-filters-from-requires : tie.Need-filters-from-requires
-filters-from-requires c κs = search needs
 
 returns-2 : tie.Need-returns-2
 returns-2 c =
@@ -25,4 +19,4 @@ returns-2 c =
 
 pub filters-of-spec : {M : Type 1} → statement M
 filters-of-spec =
-    tie.close (tie.spec new-from-coefficients-requires returns filters-from-requires returns-2)
+    tie.close (tie.spec (λ c κs. search needs) returns (λ c κs. search needs) returns-2)

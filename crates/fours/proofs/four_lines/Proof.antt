@@ -14,27 +14,6 @@ bank-lines : (b : FourBands) → lined (λ k. bandsAt k (bankOf b)) ≡ lines b
 unfolding bankOf packed lane
 bank-lines b = refl
 
-by-band-requires : tie.Need-by-band-requires
-by-band-requires c κs = search needs
-
-run-rows-requires : tie.Need-run-rows-requires
-run-rows-requires c κs = search needs
-
-bands-at-requires : tie.Need-bands-at-requires
-bands-at-requires c κs = search needs
-
-bands-at-requires-2 : tie.Need-bands-at-requires-2
-bands-at-requires-2 c κs = search needs
-
-bands-at-requires-3 : tie.Need-bands-at-requires-3
-bands-at-requires-3 c κs = search needs
-
-bands-at-requires-4 : tie.Need-bands-at-requires-4
-bands-at-requires-4 c κs = search needs
-
-same-length : tie.Need-same-length
-same-length c = search needs
-
 returns : tie.Need-returns
 returns c =
     let first = c .before .before .before in
@@ -49,11 +28,11 @@ pub four-lines-spec : {M : Type 1} → statement M
 four-lines-spec =
     tie.close
     (tie.spec
-    by-band-requires
-    run-rows-requires
-    bands-at-requires
-    bands-at-requires-2
-    bands-at-requires-3
-    bands-at-requires-4
-    same-length
+    (λ c κs. search needs)
+    (λ c κs. search needs)
+    (λ c κs. search needs)
+    (λ c κs. search needs)
+    (λ c κs. search needs)
+    (λ c κs. search needs)
+    (λ c. search needs)
     returns)

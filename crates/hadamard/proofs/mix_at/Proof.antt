@@ -17,31 +17,10 @@ Inv-loop x k r sum₀ c₀ c-end sum c = (c ≤ length x) × (sumFrom r c sum (d
 abbrev μ-loop : tie.MeasureT-loop
 μ-loop x k r sum₀ c₀ c-end sum c = length x - c
 
-shared-slice-read-sum : tie.Need-shared-slice-read-sum Inv-loop μ-loop
-shared-slice-read-sum c = search needs
-
 loop-holds : tie.Need-loop-holds Inv-loop μ-loop
 loop-holds c =
     let a = c .before .before in
     (omega arith, sum-start (a .args .r) (a .args .x .now) (omega arith))
-
-minus-requires : tie.Need-minus-requires Inv-loop μ-loop
-minus-requires c κs = search needs
-
-mul-plus-minus : tie.Need-mul-plus-minus Inv-loop μ-loop
-mul-plus-minus c = search needs
-
-shared-slice-read-plus-minus : tie.Need-shared-slice-read-plus-minus Inv-loop μ-loop
-shared-slice-read-plus-minus c = search needs
-
-plus-minus-requires : tie.Need-plus-minus-requires Inv-loop μ-loop
-plus-minus-requires c κs = search needs
-
-add-c : tie.Need-add-c Inv-loop μ-loop
-add-c c = search needs
-
-loop-less : tie.Need-loop-less Inv-loop μ-loop
-loop-less c = search needs
 
 loop-again : tie.Need-loop-again Inv-loop μ-loop
 loop-again c =
@@ -63,13 +42,13 @@ mix-at-spec =
     (tie.spec
     Inv-loop
     μ-loop
-    shared-slice-read-sum
+    (λ c. search needs)
     loop-holds
-    minus-requires
-    mul-plus-minus
-    shared-slice-read-plus-minus
-    plus-minus-requires
-    add-c
-    loop-less
+    (λ c κs. search needs)
+    (λ c. search needs)
+    (λ c. search needs)
+    (λ c κs. search needs)
+    (λ c. search needs)
+    (λ c. search needs)
     loop-again
     returns)

@@ -21,21 +21,6 @@ abbrev μ-loop : tie.MeasureT-loop
 loop-holds : tie.Need-loop-holds Inv-loop μ-loop
 loop-holds c = (search needs, search needs, refl)
 
-mix-at-requires : tie.Need-mix-at-requires Inv-loop μ-loop
-mix-at-requires c κs = search needs
-
-mul-y : tie.Need-mul-y Inv-loop μ-loop
-mul-y c = search needs
-
-slice-write-y : tie.Need-slice-write-y Inv-loop μ-loop
-slice-write-y c = search needs
-
-add-r : tie.Need-add-r Inv-loop μ-loop
-add-r c = search needs
-
-loop-less : tie.Need-loop-less Inv-loop μ-loop
-loop-less c = search needs
-
 loop-again : tie.Need-loop-again Inv-loop μ-loop
 loop-again c =
     let l = c .before .before .loop in
@@ -48,9 +33,6 @@ loop-again c =
       simp length-set (omega arith),
       rw (l .inv .2, v) (copy-more (mixed n (a .k) xs) (a .y .now) (l .r) nan (omega arith) (omega arith)),
     )
-
-same-length : tie.Need-same-length Inv-loop μ-loop
-same-length c = search needs
 
 returns : tie.Need-returns Inv-loop μ-loop
 returns c =
@@ -66,11 +48,11 @@ mix-column-spec =
     Inv-loop
     μ-loop
     loop-holds
-    mix-at-requires
-    mul-y
-    slice-write-y
-    add-r
-    loop-less
+    (λ c κs. search needs)
+    (λ c. search needs)
+    (λ c. search needs)
+    (λ c. search needs)
+    (λ c. search needs)
     loop-again
-    same-length
+    (λ c. search needs)
     returns)

@@ -23,20 +23,8 @@ both : (c : tie.Then1) →
     (length (a .x .now) ≡ 16) × (length (a .y .now) ≡ 16)
 both c = let s = c .before in sixteen _ _ (let-by (judged s) (s .is-accepted .ensures) (c .if1 .taken))
 
-and-requires : tie.Need-and-requires
-and-requires c κs = search needs
-
-need-requires : tie.Need-need-requires
-need-requires c κs = search needs
-
-is-accepted-requires : tie.Need-is-accepted-requires
-is-accepted-requires c κs = search needs
-
 mix-column-requires : tie.Need-mix-column-requires
 mix-column-requires c κs = omega (arith, both (c .before))
-
-same-length : tie.Need-same-length
-same-length c = search needs
 
 returns : tie.Need-returns
 returns c =
@@ -55,10 +43,10 @@ pub mix-sample-spec : {M : Type 1} → statement M
 mix-sample-spec =
     tie.close
     (tie.spec
-    and-requires
-    need-requires
-    is-accepted-requires
+    (λ c κs. search needs)
+    (λ c κs. search needs)
+    (λ c κs. search needs)
     mix-column-requires
-    same-length
+    (λ c. search needs)
     returns
     returns-2)

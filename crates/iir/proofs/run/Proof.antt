@@ -20,30 +20,6 @@ Inv-loop xs₀ g₀ i₀ xs g i =
 abbrev μ-loop : tie.MeasureT-loop
 μ-loop xs₀ g₀ i₀ xs g i = length xs₀ - i
 
-loop-holds : tie.Need-loop-holds Inv-loop μ-loop
-loop-holds c = search needs
-
-mul-filtered : tie.Need-mul-filtered Inv-loop μ-loop
-mul-filtered c = search needs
-
-slice-read-filtered : tie.Need-slice-read-filtered Inv-loop μ-loop
-slice-read-filtered c = search needs
-
-filtered-requires : tie.Need-filtered-requires Inv-loop μ-loop
-filtered-requires c κs = search needs
-
-mul-xs : tie.Need-mul-xs Inv-loop μ-loop
-mul-xs c = search needs
-
-slice-write-xs : tie.Need-slice-write-xs Inv-loop μ-loop
-slice-write-xs c = search needs
-
-add-i : tie.Need-add-i Inv-loop μ-loop
-add-i c = search needs
-
-loop-less : tie.Need-loop-less Inv-loop μ-loop
-loop-less c = search needs
-
 loop-again : tie.Need-loop-again Inv-loop μ-loop
 loop-again c =
     let l = c .before .before .before .loop in
@@ -55,9 +31,6 @@ loop-again c =
       stored (l .xs) (l .i) nan h v (peel (l .g) (c .filtered .ensures) at) ∙ l .inv .2,
       sym (peel-end (l .g) (c .filtered .ensures) at) ∙ l .inv .3,
     )
-
-same-length : tie.Need-same-length Inv-loop μ-loop
-same-length c = search needs
 
 returns : tie.Need-returns Inv-loop μ-loop
 returns c =
@@ -72,14 +45,14 @@ run-spec =
     (tie.spec
     Inv-loop
     μ-loop
-    loop-holds
-    mul-filtered
-    slice-read-filtered
-    filtered-requires
-    mul-xs
-    slice-write-xs
-    add-i
-    loop-less
+    (λ c. search needs)
+    (λ c. search needs)
+    (λ c. search needs)
+    (λ c κs. search needs)
+    (λ c. search needs)
+    (λ c. search needs)
+    (λ c. search needs)
+    (λ c. search needs)
     loop-again
-    same-length
+    (λ c. search needs)
     returns)

@@ -24,36 +24,6 @@ Inv-loop xs₀ g0₀ g1₀ g2₀ i₀ xs g0 g1 g2 i =
 abbrev μ-loop : tie.MeasureT-loop
 μ-loop xs₀ g0₀ g1₀ g2₀ i₀ xs g0 g1 g2 i = length xs₀ - i
 
-loop-holds : tie.Need-loop-holds Inv-loop μ-loop
-loop-holds c = search needs
-
-mul-filtered : tie.Need-mul-filtered Inv-loop μ-loop
-mul-filtered c = search needs
-
-slice-read-filtered : tie.Need-slice-read-filtered Inv-loop μ-loop
-slice-read-filtered c = search needs
-
-filtered-requires : tie.Need-filtered-requires Inv-loop μ-loop
-filtered-requires c κs = search needs
-
-filtered-requires-2 : tie.Need-filtered-requires-2 Inv-loop μ-loop
-filtered-requires-2 c κs = search needs
-
-filtered-requires-3 : tie.Need-filtered-requires-3 Inv-loop μ-loop
-filtered-requires-3 c κs = search needs
-
-mul-xs : tie.Need-mul-xs Inv-loop μ-loop
-mul-xs c = search needs
-
-slice-write-xs : tie.Need-slice-write-xs Inv-loop μ-loop
-slice-write-xs c = search needs
-
-add-i : tie.Need-add-i Inv-loop μ-loop
-add-i c = search needs
-
-loop-less : tie.Need-loop-less Inv-loop μ-loop
-loop-less c = search needs
-
 loop-again : tie.Need-loop-again Inv-loop μ-loop
 loop-again c =
     let l = c .before .before .before .before .before .loop in
@@ -74,9 +44,6 @@ loop-again c =
       sym (peel-end (l .g2) e2 p2) ∙ l .inv .6,
     )
 
-same-length : tie.Need-same-length Inv-loop μ-loop
-same-length c = search needs
-
 returns : tie.Need-returns Inv-loop μ-loop
 unfolding bandsOut bandsEnd
 returns c =
@@ -94,16 +61,16 @@ three-bands-spec =
     (tie.spec
     Inv-loop
     μ-loop
-    loop-holds
-    mul-filtered
-    slice-read-filtered
-    filtered-requires
-    filtered-requires-2
-    filtered-requires-3
-    mul-xs
-    slice-write-xs
-    add-i
-    loop-less
+    (λ c. search needs)
+    (λ c. search needs)
+    (λ c. search needs)
+    (λ c κs. search needs)
+    (λ c κs. search needs)
+    (λ c κs. search needs)
+    (λ c. search needs)
+    (λ c. search needs)
+    (λ c. search needs)
+    (λ c. search needs)
     loop-again
-    same-length
+    (λ c. search needs)
     returns)

@@ -34,15 +34,6 @@ use Rattle.rows.proofs.make_line.Reads as make-line-reads
 use Rattle.samples.proofs.is_accepted.Reads as is-accepted-reads
 use Rattle.turns.proofs.judge_line.Reads as judge-line-reads
 
-judge-line-requires : tie.Need-judge-line-requires
-judge-line-requires c κs = search needs
-
-is-accepted-requires : tie.Need-is-accepted-requires
-is-accepted-requires c κs = search needs
-
-quiet-requires : tie.Need-quiet-requires
-quiet-requires c κs = search needs
-
 returns : tie.Need-returns
 returns c =
     let tested = c .before .before in
@@ -83,20 +74,11 @@ module _ (p : lts.Else1 (judge-line-reads.Asked, judge-line-reads.Learnt, is-acc
   room : (ltb line 16 && workFor wall (u .frame) work) ≡ true
   room = join-and known (work-for u work (due-of u (workOk wall u work) (ltb line 16) turn due))
 
-make-line-requires : tie.Need-make-line-requires
-make-line-requires c κs = search needs
-
 add-marked : tie.Need-add-marked
 add-marked c = omega (arith, few (c .before .before .before .before .before))
 
 marked-requires : tie.Need-marked-requires
 marked-requires c κs = omega (arith, few (c .before .before .before .before .before))
-
-quiet-requires-2 : tie.Need-quiet-requires-2
-quiet-requires-2 c κs = search needs
-
-same-length : tie.Need-same-length
-same-length c = search needs
 
 returns-2 : tie.Need-returns-2
 returns-2 c =
@@ -123,13 +105,13 @@ pub job-line-spec : {M : Type 1} → statement M
 job-line-spec =
     tie.close
     (tie.spec
-    judge-line-requires
-    is-accepted-requires
-    quiet-requires
+    (λ c κs. search needs)
+    (λ c κs. search needs)
+    (λ c κs. search needs)
     returns
-    make-line-requires
+    (λ c κs. search needs)
     add-marked
     marked-requires
-    quiet-requires-2
-    same-length
+    (λ c κs. search needs)
+    (λ c. search needs)
     returns-2)

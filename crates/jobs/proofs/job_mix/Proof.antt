@@ -20,15 +20,6 @@ use Rattle.jobs.proofs.Laid.{work-for}
 use Rattle.jobs.proofs.job_mix.Statement.{statement}
 use Rattle.jobs.proofs.job_mix.Tie as tie
 
-judge-mix-requires : tie.Need-judge-mix-requires
-judge-mix-requires c κs = search needs
-
-is-accepted-requires : tie.Need-is-accepted-requires
-is-accepted-requires c κs = search needs
-
-quiet-requires : tie.Need-quiet-requires
-quiet-requires c κs = search needs
-
 returns : tie.Need-returns
 returns c =
     let tested = c .before .before in
@@ -54,15 +45,6 @@ mix-rows-requires c κs =
     let through = let-by _ (judgedMix wall u work) _ (judged .judge-mix .ensures) (tested .is-accepted .ensures) (passed .if1 .left) in
     work-fits (u .frame) work (work-for u work (due-of u (workOk wall u work) true (u .busy && (allRead wall u && not (marked u (mixMark wall)))) (is-accepted _ through)))
 
-marked-requires : tie.Need-marked-requires
-marked-requires c κs = search needs
-
-quiet-requires-2 : tie.Need-quiet-requires-2
-quiet-requires-2 c κs = search needs
-
-same-length : tie.Need-same-length
-same-length c = search needs
-
 returns-2 : tie.Need-returns-2
 returns-2 c =
     let made = c .before in
@@ -86,12 +68,12 @@ pub job-mix-spec : {M : Type 1} → statement M
 job-mix-spec =
     tie.close
     (tie.spec
-    judge-mix-requires
-    is-accepted-requires
-    quiet-requires
+    (λ c κs. search needs)
+    (λ c κs. search needs)
+    (λ c κs. search needs)
     returns
     mix-rows-requires
-    marked-requires
-    quiet-requires-2
-    same-length
+    (λ c κs. search needs)
+    (λ c κs. search needs)
+    (λ c. search needs)
     returns-2)

@@ -21,15 +21,6 @@ use Rattle.jobs.proofs.Laid.{work-for, output-work, output-ends}
 use Rattle.jobs.proofs.job_output.Statement.{statement}
 use Rattle.jobs.proofs.job_output.Tie as tie
 
-judge-output-requires : tie.Need-judge-output-requires
-judge-output-requires c κs = search needs
-
-is-accepted-requires : tie.Need-is-accepted-requires
-is-accepted-requires c κs = search needs
-
-quiet-requires : tie.Need-quiet-requires
-quiet-requires c κs = search needs
-
 returns : tie.Need-returns
 returns c =
     let tested = c .before .before in
@@ -43,18 +34,6 @@ returns c =
       c .quiet .ensures ∙ (λ i. outcome (e i) (old-left _ b _ e t (markedUnit u (outputMark wall) (outputFilters wall u (now (a .work)))) u h i) TailComplete),
       old-left _ b _ e t (outputWork wall u (now (a .work))) (now (a .work)) h,
     )
-
-make-output-requires : tie.Need-make-output-requires
-make-output-requires c κs = search needs
-
-marked-requires : tie.Need-marked-requires
-marked-requires c κs = search needs
-
-quiet-requires-2 : tie.Need-quiet-requires-2
-quiet-requires-2 c κs = search needs
-
-same-length : tie.Need-same-length
-same-length c = search needs
 
 returns-2 : tie.Need-returns-2
 returns-2 c =
@@ -84,12 +63,12 @@ pub job-output-spec : {M : Type 1} → statement M
 job-output-spec =
     tie.close
     (tie.spec
-    judge-output-requires
-    is-accepted-requires
-    quiet-requires
+    (λ c κs. search needs)
+    (λ c κs. search needs)
+    (λ c κs. search needs)
     returns
-    make-output-requires
-    marked-requires
-    quiet-requires-2
-    same-length
+    (λ c κs. search needs)
+    (λ c κs. search needs)
+    (λ c κs. search needs)
+    (λ c. search needs)
     returns-2)

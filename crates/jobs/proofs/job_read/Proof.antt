@@ -35,15 +35,6 @@ use Rattle.silence.proofs.quiet.Reads as quiet-reads
 use Rattle.samples.proofs.is_accepted.Reads as is-accepted-reads
 use Rattle.turns.proofs.judge_read.Reads as judge-read-reads
 
-judge-read-requires : tie.Need-judge-read-requires
-judge-read-requires c κs = search needs
-
-is-accepted-requires : tie.Need-is-accepted-requires
-is-accepted-requires c κs = search needs
-
-quiet-requires : tie.Need-quiet-requires
-quiet-requires c κs = search needs
-
 returns : tie.Need-returns
 returns c =
     let tested = c .before .before in
@@ -102,17 +93,8 @@ mul-c c = omega (arith, few (c .before))
 array-copy-out-c : tie.Need-array-copy-out-c
 array-copy-out-c c = omega (arith, few (c .before))
 
-read-line-requires : tie.Need-read-line-requires
-read-line-requires c κs = search needs
-
 marked-requires : tie.Need-marked-requires
 marked-requires c κs = omega (arith, few (c .before .before .before .before .before .before .before))
-
-quiet-requires-2 : tie.Need-quiet-requires-2
-quiet-requires-2 c κs = search needs
-
-same-length : tie.Need-same-length
-same-length c = search needs
 
 returns-2 : tie.Need-returns-2
 returns-2 c =
@@ -138,14 +120,14 @@ pub job-read-spec : {M : Type 1} → statement M
 job-read-spec =
     tie.close
     (tie.spec
-    judge-read-requires
-    is-accepted-requires
-    quiet-requires
+    (λ c κs. search needs)
+    (λ c κs. search needs)
+    (λ c κs. search needs)
     returns
     mul-c
     array-copy-out-c
-    read-line-requires
+    (λ c κs. search needs)
     marked-requires
-    quiet-requires-2
-    same-length
+    (λ c κs. search needs)
+    (λ c. search needs)
     returns-2)

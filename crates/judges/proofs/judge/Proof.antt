@@ -7,21 +7,6 @@ use Rattle.judges.specs.Judges.{judged}
 use Rattle.judges.proofs.judge.Statement.{statement}
 use Rattle.judges.proofs.judge.Tie as tie
 
-in-range-requires : tie.Need-in-range-requires
-in-range-requires c κs = search needs
-
-need-requires : tie.Need-need-requires
-need-requires c κs = search needs
-
-need-requires-2 : tie.Need-need-requires-2
-need-requires-2 c κs = search needs
-
-need-requires-3 : tie.Need-need-requires-3
-need-requires-3 c κs = search needs
-
-need-requires-4 : tie.Need-need-requires-4
-need-requires-4 c κs = search needs
-
 returns : tie.Need-returns
 unfolding judged
 returns c =
@@ -36,9 +21,9 @@ pub judge-spec : {M : Type 1} → statement M
 judge-spec =
     tie.close
     (tie.spec
-    in-range-requires
-    need-requires
-    need-requires-2
-    need-requires-3
-    need-requires-4
+    (λ c κs. search needs)
+    (λ c κs. search needs)
+    (λ c κs. search needs)
+    (λ c κs. search needs)
+    (λ c κs. search needs)
     returns)

@@ -9,24 +9,6 @@ use Rattle.judges.specs.Judges.{judged}
 use Rattle.judges.proofs.judge_apply.Statement.{statement}
 use Rattle.judges.proofs.judge_apply.Tie as tie
 
-and-requires : tie.Need-and-requires
-and-requires c κs = search needs
-
-lent-ok-requires : tie.Need-lent-ok-requires
-lent-ok-requires c κs = search needs
-
-and-requires-2 : tie.Need-and-requires-2
-and-requires-2 c κs = search needs
-
-judge-requires : tie.Need-judge-requires
-judge-requires c κs = search needs
-
-judge-given-requires : tie.Need-judge-given-requires
-judge-given-requires c κs = search needs
-
-or-else-requires : tie.Need-or-else-requires
-or-else-requires c κs = search needs
-
 returns : tie.Need-returns
 returns c =
     let given = c .before in
@@ -42,10 +24,10 @@ pub judge-apply-spec : {M : Type 1} → statement M
 judge-apply-spec =
     tie.close
     (tie.spec
-    and-requires
-    lent-ok-requires
-    and-requires-2
-    judge-requires
-    judge-given-requires
-    or-else-requires
+    (λ c κs. search needs)
+    (λ c κs. search needs)
+    (λ c κs. search needs)
+    (λ c κs. search needs)
+    (λ c κs. search needs)
+    (λ c κs. search needs)
     returns)

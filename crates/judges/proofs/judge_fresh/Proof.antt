@@ -7,24 +7,6 @@ use Rattle.judges.specs.Judges.{judgedFresh}
 use Rattle.judges.proofs.judge_fresh.Statement.{statement}
 use Rattle.judges.proofs.judge_fresh.Tie as tie
 
-rate-ok-requires : tie.Need-rate-ok-requires
-rate-ok-requires c κs = search needs
-
-frame-ok-requires : tie.Need-frame-ok-requires
-frame-ok-requires c κs = search needs
-
-and-requires : tie.Need-and-requires
-and-requires c κs = search needs
-
-store-ok-requires : tie.Need-store-ok-requires
-store-ok-requires c κs = search needs
-
-need-requires : tie.Need-need-requires
-need-requires c κs = search needs
-
-need-requires-2 : tie.Need-need-requires-2
-need-requires-2 c κs = search needs
-
 returns : tie.Need-returns
 unfolding judgedFresh
 returns c =
@@ -37,10 +19,10 @@ pub judge-fresh-spec : {M : Type 1} → statement M
 judge-fresh-spec =
     tie.close
     (tie.spec
-    rate-ok-requires
-    frame-ok-requires
-    and-requires
-    store-ok-requires
-    need-requires
-    need-requires-2
+    (λ c κs. search needs)
+    (λ c κs. search needs)
+    (λ c κs. search needs)
+    (λ c κs. search needs)
+    (λ c κs. search needs)
+    (λ c κs. search needs)
     returns)

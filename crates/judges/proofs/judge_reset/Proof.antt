@@ -8,16 +8,10 @@ use Rattle.judges.specs.Judges.{judged}
 use Rattle.judges.proofs.judge_reset.Statement.{statement}
 use Rattle.judges.proofs.judge_reset.Tie as tie
 
-store-ok-requires : tie.Need-store-ok-requires
-store-ok-requires c κs = search needs
-
-judge-requires : tie.Need-judge-requires
-judge-requires c κs = search needs
-
 returns : tie.Need-returns
 returns c =
     let s = c .before .before .args .s in
     c .judge .ensures ∙ ap (λ (b : Bool). judged wall (ofState s) b true (not (s .busy))) (c .before .store-ok .ensures)
 
 pub judge-reset-spec : {M : Type 1} → statement M
-judge-reset-spec = tie.close (tie.spec store-ok-requires judge-requires returns)
+judge-reset-spec = tie.close (tie.spec (λ c κs. search needs) (λ c κs. search needs) returns)

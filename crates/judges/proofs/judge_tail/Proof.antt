@@ -8,16 +8,10 @@ use Rattle.judges.specs.Judges.{judged}
 use Rattle.judges.proofs.judge_tail.Statement.{statement}
 use Rattle.judges.proofs.judge_tail.Tie as tie
 
-lent-ok-requires : tie.Need-lent-ok-requires
-lent-ok-requires c κs = search needs
-
-judge-requires : tie.Need-judge-requires
-judge-requires c κs = search needs
-
 returns : tie.Need-returns
 returns c =
     let s = c .before .before .args .s in
     c .judge .ensures ∙ ap (λ (b : Bool). judged wall (ofState s) b true (not (s .busy))) (c .before .lent-ok .ensures)
 
 pub judge-tail-spec : {M : Type 1} → statement M
-judge-tail-spec = tie.close (tie.spec lent-ok-requires judge-requires returns)
+judge-tail-spec = tie.close (tie.spec (λ c κs. search needs) (λ c κs. search needs) returns)

@@ -18,33 +18,6 @@ Inv-loop xs other₀ i₀ i-end other i =
 abbrev μ-loop : tie.MeasureT-loop
 μ-loop xs other₀ i₀ i-end other i = length xs - i
 
-loop-holds : tie.Need-loop-holds Inv-loop μ-loop
-loop-holds c = search needs
-
-mul-other : tie.Need-mul-other Inv-loop μ-loop
-mul-other c = search needs
-
-slice-read-other : tie.Need-slice-read-other Inv-loop μ-loop
-slice-read-other c = search needs
-
-mul-other-2 : tie.Need-mul-other-2 Inv-loop μ-loop
-mul-other-2 c = search needs
-
-shared-slice-read-other : tie.Need-shared-slice-read-other Inv-loop μ-loop
-shared-slice-read-other c = search needs
-
-mul-other-3 : tie.Need-mul-other-3 Inv-loop μ-loop
-mul-other-3 c = search needs
-
-slice-write-other : tie.Need-slice-write-other Inv-loop μ-loop
-slice-write-other c = search needs
-
-add-i : tie.Need-add-i Inv-loop μ-loop
-add-i c = search needs
-
-loop-less : tie.Need-loop-less Inv-loop μ-loop
-loop-less c = search needs
-
 loop-again : tie.Need-loop-again Inv-loop μ-loop
 loop-again c =
     let l = c .before .before .before .loop in
@@ -54,9 +27,6 @@ loop-again c =
       simp length-set (l .inv .1),
       stored (l .other) (l .i) nan (omega arith) _ (λ i. mixed (next xs (l .i) nan (omega arith) i) (here i)) ∙ l .inv .2,
     )
-
-same-length : tie.Need-same-length Inv-loop μ-loop
-same-length c = search needs
 
 returns : tie.Need-returns Inv-loop μ-loop
 returns c =
@@ -70,15 +40,15 @@ add-spec =
     (tie.spec
     Inv-loop
     μ-loop
-    loop-holds
-    mul-other
-    slice-read-other
-    mul-other-2
-    shared-slice-read-other
-    mul-other-3
-    slice-write-other
-    add-i
-    loop-less
+    (λ c. search needs)
+    (λ c. search needs)
+    (λ c. search needs)
+    (λ c. search needs)
+    (λ c. search needs)
+    (λ c. search needs)
+    (λ c. search needs)
+    (λ c. search needs)
+    (λ c. search needs)
     loop-again
-    same-length
+    (λ c. search needs)
     returns)

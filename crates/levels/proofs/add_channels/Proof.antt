@@ -36,23 +36,11 @@ add-end c = omega (arith, within c)
 mul-add : tie.Need-mul-add Inv-loop μ-loop
 mul-add c = omega (arith, within c)
 
-sub-add : tie.Need-sub-add Inv-loop μ-loop
-sub-add c = search needs
-
-part-add-start : tie.Need-part-add-start Inv-loop μ-loop
-part-add-start c = search needs
-
 part-add-end : tie.Need-part-add-end Inv-loop μ-loop
 part-add-end c = omega (arith, within c)
 
 add-requires : tie.Need-add-requires Inv-loop μ-loop
 add-requires c κs = simp (length-take, length-drop) (omega (arith, within (c .before .before)))
-
-add-i : tie.Need-add-i Inv-loop μ-loop
-add-i c = search needs
-
-loop-less : tie.Need-loop-less Inv-loop μ-loop
-loop-less c = search needs
 
 loop-again : tie.Need-loop-again Inv-loop μ-loop
 loop-again c =
@@ -65,9 +53,6 @@ loop-again c =
       added .kept .1 .0 ∙ l .inv .2,
       rw (added .ensures, lent) (sym (summed-more (a .samples) (l .at) (a .buffer .now) (l .row) (a .channels) (l .i) (omega arith)) ∙ l .inv .3),
     )
-
-same-length : tie.Need-same-length Inv-loop μ-loop
-same-length c = search needs
 
 returns : tie.Need-returns Inv-loop μ-loop
 returns c =
@@ -83,12 +68,12 @@ add-channels-spec =
     loop-holds
     add-end
     mul-add
-    sub-add
-    part-add-start
+    (λ c. search needs)
+    (λ c. search needs)
     part-add-end
     add-requires
-    add-i
-    loop-less
+    (λ c. search needs)
+    (λ c. search needs)
     loop-again
-    same-length
+    (λ c. search needs)
     returns)

@@ -5,19 +5,10 @@ use Rattle.levels.proofs.Laws.{downmix-of}
 use Rattle.levels.proofs.downmix.Statement.{statement}
 use Rattle.levels.proofs.downmix.Tie as tie
 
-judge-downmix-requires : tie.Need-judge-downmix-requires
-judge-downmix-requires c κs = search needs
-
-is-accepted-requires : tie.Need-is-accepted-requires
-is-accepted-requires c κs = search needs
-
 average-requires : tie.Need-average-requires
 average-requires c κs =
     let t = c .before in
     downmix-of _ _ _ _ (let-by (t .before .before .judge-downmix .ensures) (t .before .is-accepted .ensures) (t .if1 .taken))
-
-same-length : tie.Need-same-length
-same-length c = search needs
 
 returns : tie.Need-returns
 returns c =
@@ -32,9 +23,9 @@ pub downmix-spec : {M : Type 1} → statement M
 downmix-spec =
     tie.close
     (tie.spec
-    judge-downmix-requires
-    is-accepted-requires
+    (λ c κs. search needs)
+    (λ c κs. search needs)
     average-requires
-    same-length
+    (λ c. search needs)
     returns
     returns-2)

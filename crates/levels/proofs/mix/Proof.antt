@@ -6,20 +6,11 @@ use mathlib.Core.Path.{sym, _∙_}
 use Rattle.levels.proofs.mix.Statement.{statement}
 use Rattle.levels.proofs.mix.Tie as tie
 
-judge-two-requires : tie.Need-judge-two-requires
-judge-two-requires c κs = search needs
-
-is-accepted-requires : tie.Need-is-accepted-requires
-is-accepted-requires c κs = search needs
-
 add-requires : tie.Need-add-requires
 add-requires c κs =
     let t = c .before in
     let p = two-of _ _ _ _ (let-by (t .before .before .judge-two .ensures) (t .before .is-accepted .ensures) (t .if1 .taken)) in
     p .0 ∙ sym (p .1)
-
-same-length : tie.Need-same-length
-same-length c = search needs
 
 returns : tie.Need-returns
 returns c =
@@ -33,4 +24,4 @@ returns-2 c = let e = c .before .before .judge-two .ensures in (e, old-left e (c
 pub mix-spec : {M : Type 1} → statement M
 mix-spec =
     tie.close
-    (tie.spec judge-two-requires is-accepted-requires add-requires same-length returns returns-2)
+    (tie.spec (λ c κs. search needs) (λ c κs. search needs) add-requires (λ c. search needs) returns returns-2)

@@ -7,9 +7,6 @@ use Rattle.lines.proofs.Rooms.{none}
 use Rattle.lines.proofs.close_frame.Statement.{statement}
 use Rattle.lines.proofs.close_frame.Tie as tie
 
-room-ok-requires : tie.Need-room-ok-requires
-room-ok-requires c κs = search needs
-
 returns : tie.Need-returns
 returns c =
     let a = c .before .before .before .before .before .args in
@@ -22,15 +19,6 @@ wall-close-requires c κs =
     let a = tested .before .before .before .before .before .args in
     room-fits (a .f) (a .cs) (a .qs) _ _ _ (let-in _ _ (tested .before .room-ok .ensures) (tested .if1 .left))
 
-same-length : tie.Need-same-length
-same-length c = search needs
-
-same-length-2 : tie.Need-same-length-2
-same-length-2 c = search needs
-
-same-length-3 : tie.Need-same-length-3
-same-length-3 c = search needs
-
 returns-2 : tie.Need-returns-2
 returns-2 c =
     let ran = c .before .before .before .before .before .before in
@@ -42,10 +30,10 @@ pub close-frame-spec : {M : Type 1} → statement M
 close-frame-spec =
     tie.close
     (tie.spec
-    room-ok-requires
+    (λ c κs. search needs)
     returns
     wall-close-requires
-    same-length
-    same-length-2
-    same-length-3
+    (λ c. search needs)
+    (λ c. search needs)
+    (λ c. search needs)
     returns-2)

@@ -5,12 +5,6 @@ use Rattle.lines.proofs.Room.{lines-wall}
 use Rattle.lines.proofs.moved_on.Statement.{statement}
 use Rattle.lines.proofs.moved_on.Tie as tie
 
-move-lines-requires : tie.Need-move-lines-requires
-move-lines-requires c κs = search needs
-
-move-passes-requires : tie.Need-move-passes-requires
-move-passes-requires c κs = search needs
-
 returns : tie.Need-returns
 unfolding ended
 returns c =
@@ -20,4 +14,4 @@ returns c =
     λ i. record { ok = a .ok; filters = a .fs; lines = lines i; passes = c .move-passes .ensures i }
 
 pub moved-on-spec : {M : Type 1} → statement M
-moved-on-spec = tie.close (tie.spec move-lines-requires move-passes-requires returns)
+moved-on-spec = tie.close (tie.spec (λ c κs. search needs) (λ c κs. search needs) returns)

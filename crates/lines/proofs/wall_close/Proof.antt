@@ -10,9 +10,6 @@ use Rattle.lines.proofs.RowsOf.{judged-rows, put-as, out-as}
 use Rattle.lines.proofs.wall_close.Statement.{statement}
 use Rattle.lines.proofs.wall_close.Tie as tie
 
-line-lengths-requires : tie.Need-line-lengths-requires
-line-lengths-requires c κs = search needs
-
 finish-frame-requires : tie.Need-finish-frame-requires
 finish-frame-requires c κs =
     let lined = c .before .before .before in
@@ -26,15 +23,6 @@ moved-on-requires c κs =
     let p = lined .before .before .before .before .pre in
     let e = lined .line-lengths .ensures in
     (p .short, e, rw e (p .lines), p .passes)
-
-same-length : tie.Need-same-length
-same-length c = search needs
-
-same-length-2 : tie.Need-same-length-2
-same-length-2 c = search needs
-
-same-length-3 : tie.Need-same-length-3
-same-length-3 c = search needs
 
 returns : tie.Need-returns
 unfolding endedWork
@@ -56,10 +44,10 @@ pub wall-close-spec : {M : Type 1} → statement M
 wall-close-spec =
     tie.close
     (tie.spec
-    line-lengths-requires
+    (λ c κs. search needs)
     finish-frame-requires
     moved-on-requires
-    same-length
-    same-length-2
-    same-length-3
+    (λ c. search needs)
+    (λ c. search needs)
+    (λ c. search needs)
     returns)

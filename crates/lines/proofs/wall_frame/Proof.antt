@@ -11,9 +11,6 @@ use Rattle.lines.proofs.Room.{frame-wall, store-wall, ended-as}
 use Rattle.lines.proofs.wall_frame.Statement.{statement}
 use Rattle.lines.proofs.wall_frame.Tie as tie
 
-line-lengths-requires : tie.Need-line-lengths-requires
-line-lengths-requires c κs = search needs
-
 judge-frame-requires : tie.Need-judge-frame-requires
 judge-frame-requires c κs =
     let lined = c .before .before .before in
@@ -27,15 +24,6 @@ moved-on-requires c κs =
     let p = lined .before .before .before .before .pre in
     let e = lined .line-lengths .ensures in
     (p .short, e, rw e (p .lines), p .passes)
-
-same-length : tie.Need-same-length
-same-length c = search needs
-
-same-length-2 : tie.Need-same-length-2
-same-length-2 c = search needs
-
-same-length-3 : tie.Need-same-length-3
-same-length-3 c = search needs
 
 returns : tie.Need-returns
 unfolding judgedOutput endedWork endedOutput
@@ -59,10 +47,10 @@ pub wall-frame-spec : {M : Type 1} → statement M
 wall-frame-spec =
     tie.close
     (tie.spec
-    line-lengths-requires
+    (λ c κs. search needs)
     judge-frame-requires
     moved-on-requires
-    same-length
-    same-length-2
-    same-length-3
+    (λ c. search needs)
+    (λ c. search needs)
+    (λ c. search needs)
     returns)

@@ -19,47 +19,11 @@ abbrev μ-loop : tie.MeasureT-loop
 loop-holds : tie.Need-loop-holds Inv-loop μ-loop
 loop-holds c = (search needs, search needs, pass-none _ _ _ _)
 
-add-w : tie.Need-add-w Inv-loop μ-loop
-add-w c = search needs
-
-mul-w : tie.Need-mul-w Inv-loop μ-loop
-mul-w c = search needs
-
-slice-read-w : tie.Need-slice-read-w Inv-loop μ-loop
-slice-read-w c = search needs
-
-add-w-2 : tie.Need-add-w-2 Inv-loop μ-loop
-add-w-2 c = search needs
-
-mul-w-2 : tie.Need-mul-w-2 Inv-loop μ-loop
-mul-w-2 c = search needs
-
-slice-read-w-2 : tie.Need-slice-read-w-2 Inv-loop μ-loop
-slice-read-w-2 c = search needs
-
-add-w-3 : tie.Need-add-w-3 Inv-loop μ-loop
-add-w-3 c = search needs
-
-mul-w-3 : tie.Need-mul-w-3 Inv-loop μ-loop
-mul-w-3 c = search needs
-
-slice-write-w : tie.Need-slice-write-w Inv-loop μ-loop
-slice-write-w c = search needs
-
-add-t : tie.Need-add-t Inv-loop μ-loop
-add-t c = search needs
-
-loop-less : tie.Need-loop-less Inv-loop μ-loop
-loop-less c = search needs
-
 loop-again : tie.Need-loop-again Inv-loop μ-loop
 loop-again c =
     let l = c .before .before .before .loop in
     let a = c .before .before .before .before .args in
     (omega arith, simp length-set (omega arith), pass-more _⊕_ (a .d) (l .t) (a .w .now) (l .w) (omega arith) (a .s) (omega arith) (l .inv .2))
-
-same-length : tie.Need-same-length Inv-loop μ-loop
-same-length c = search needs
 
 returns : tie.Need-returns Inv-loop μ-loop
 returns c = pass-all _ _ _ _ _ _ _ (omega arith) (c .before .loop .inv .2)
@@ -71,17 +35,17 @@ add-row-spec =
     Inv-loop
     μ-loop
     loop-holds
-    add-w
-    mul-w
-    slice-read-w
-    add-w-2
-    mul-w-2
-    slice-read-w-2
-    add-w-3
-    mul-w-3
-    slice-write-w
-    add-t
-    loop-less
+    (λ c. search needs)
+    (λ c. search needs)
+    (λ c. search needs)
+    (λ c. search needs)
+    (λ c. search needs)
+    (λ c. search needs)
+    (λ c. search needs)
+    (λ c. search needs)
+    (λ c. search needs)
+    (λ c. search needs)
+    (λ c. search needs)
     loop-again
-    same-length
+    (λ c. search needs)
     returns)

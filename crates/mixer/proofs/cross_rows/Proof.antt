@@ -37,17 +37,8 @@ add-a c = omega (arith, room c)
 add-s : tie.Need-add-s Inv-loop μ-loop
 add-s c = omega (arith, room c)
 
-add-c : tie.Need-add-c Inv-loop μ-loop
-add-c c = search needs
-
-minus-requires : tie.Need-minus-requires Inv-loop μ-loop
-minus-requires c κs = search needs
-
 cross-row-requires : tie.Need-cross-row-requires Inv-loop μ-loop
 cross-row-requires c κs = omega (arith, room (c .before .before))
-
-loop-less : tie.Need-loop-less Inv-loop μ-loop
-loop-less c = search needs
 
 loop-again : tie.Need-loop-again Inv-loop μ-loop
 loop-again c =
@@ -61,9 +52,6 @@ loop-again c =
       crossed-two (a .r) (a .d) (a .e) (a .f) (l .c) (l .s + a .f) (l .s + a .f + a .f) (a .w .now) (l .w) (omega arith) (omega arith) (omega arith)
           (omega arith) (omega arith) refl (omega (arith, low)) (l .inv .4) (c .before .before .before .minus .ensures) (c .before .before .cross-row .ensures),
     )
-
-same-length : tie.Need-same-length Inv-loop μ-loop
-same-length c = search needs
 
 returns : tie.Need-returns Inv-loop μ-loop
 returns c =
@@ -80,10 +68,10 @@ cross-rows-spec =
     loop-holds
     add-a
     add-s
-    add-c
-    minus-requires
+    (λ c. search needs)
+    (λ c κs. search needs)
     cross-row-requires
-    loop-less
+    (λ c. search needs)
     loop-again
-    same-length
+    (λ c. search needs)
     returns)

@@ -21,9 +21,6 @@ Inv-loop w₀ n f k d₀ r₀ w d r = (r ≤ n) × (d ≡ n * f + r * f) × (len
 abbrev μ-loop : tie.MeasureT-loop
 μ-loop w₀ n f k d₀ r₀ w d r = n - r
 
-mul-d : tie.Need-mul-d Inv-loop μ-loop
-mul-d c = search needs
-
 loop-holds : tie.Need-loop-holds Inv-loop μ-loop
 loop-holds c = (search needs, omega (arith, zero-mul (c .before .args .f)), search needs, over-none _ _)
 
@@ -37,12 +34,6 @@ add-d c =
     let a = c .before .before .before .before .before .before .before .args in
     omega (arith, row-ends (c .before .before .before .before .before .loop .r) (a .n) (a .f) (omega arith))
 
-add-r : tie.Need-add-r Inv-loop μ-loop
-add-r c = search needs
-
-loop-less : tie.Need-loop-less Inv-loop μ-loop
-loop-less c = search needs
-
 loop-again : tie.Need-loop-again Inv-loop μ-loop
 loop-again c =
     let l = c .before .before .before .before .before .loop in
@@ -53,9 +44,6 @@ loop-again c =
       rows-more (a .n) (a .f) (l .r) (l .d) (a .k) (a .w .now) (l .w) _ (omega arith) (omega arith) (l .inv .1) (l .inv .3)
           (c .before .before .mix-row .ensures),
     )
-
-same-length : tie.Need-same-length Inv-loop μ-loop
-same-length c = search needs
 
 returns : tie.Need-returns Inv-loop μ-loop
 unfolding mixedRows
@@ -70,12 +58,12 @@ mix-ones-spec =
     (tie.spec
     Inv-loop
     μ-loop
-    mul-d
+    (λ c. search needs)
     loop-holds
     mix-row-requires
     add-d
-    add-r
-    loop-less
+    (λ c. search needs)
+    (λ c. search needs)
     loop-again
-    same-length
+    (λ c. search needs)
     returns)

@@ -7,26 +7,14 @@ use Rattle.hadamard.proofs.Laws.{rows-fit, judged-is, rows-done}
 use Rattle.mixer.proofs.mix_rows.Statement.{statement}
 use Rattle.mixer.proofs.mix_rows.Tie as tie
 
-row-length-requires : tie.Need-row-length-requires
-row-length-requires c κs = search needs
-
 mul-read : tie.Need-mul-read
 mul-read c = omega (arith, rows-fit (c .before .before .args .lines) _ (c .row-length .ensures))
 
 add-ok : tie.Need-add-ok
 add-ok c = omega (arith, rows-fit (c .before .before .args .lines) _ (c .row-length .ensures))
 
-need-requires : tie.Need-need-requires
-need-requires c κs = search needs
-
-is-accepted-requires : tie.Need-is-accepted-requires
-is-accepted-requires c κs = search needs
-
 mix-all-requires : tie.Need-mix-all-requires
 mix-all-requires c κs = rows-fit _ _ (c .before .before .before .before .row-length .ensures)
-
-same-length : tie.Need-same-length
-same-length c = search needs
 
 returns : tie.Need-returns
 returns c =
@@ -52,12 +40,12 @@ pub mix-rows-spec : {M : Type 1} → statement M
 mix-rows-spec =
     tie.close
     (tie.spec
-    row-length-requires
+    (λ c κs. search needs)
     mul-read
     add-ok
-    need-requires
-    is-accepted-requires
+    (λ c κs. search needs)
+    (λ c κs. search needs)
     mix-all-requires
-    same-length
+    (λ c. search needs)
     returns
     returns-2)

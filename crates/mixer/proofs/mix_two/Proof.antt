@@ -11,30 +11,15 @@ sum-row-requires c κs =
     let a = c .before .before .args in
     omega (arith, two-off (a .n) (a .f) (omega arith))
 
-add-sum-row : tie.Need-add-sum-row
-add-sum-row c = search needs
-
 sum-row-requires-2 : tie.Need-sum-row-requires-2
 sum-row-requires-2 c κs =
     let a = c .before .before .before .before .before .before .args in
     omega (arith, two-off (a .n) (a .f) (omega arith))
 
-sub-cross-rows : tie.Need-sub-cross-rows
-sub-cross-rows c = search needs
-
 cross-rows-requires : tie.Need-cross-rows-requires
 cross-rows-requires c κs =
     let a = c .before .before .before .before .before .before .before .before .before .before .args in
     omega (arith, two-off (a .n) (a .f) (omega arith))
-
-scale-row-requires : tie.Need-scale-row-requires
-scale-row-requires c κs = search needs
-
-scale-row-requires-2 : tie.Need-scale-row-requires-2
-scale-row-requires-2 c κs = search needs
-
-same-length : tie.Need-same-length
-same-length c = search needs
 
 returns : tie.Need-returns
 returns c =
@@ -57,11 +42,11 @@ mix-two-spec =
     tie.close
     (tie.spec
     sum-row-requires
-    add-sum-row
+    (λ c. search needs)
     sum-row-requires-2
-    sub-cross-rows
+    (λ c. search needs)
     cross-rows-requires
-    scale-row-requires
-    scale-row-requires-2
-    same-length
+    (λ c κs. search needs)
+    (λ c κs. search needs)
+    (λ c. search needs)
     returns)

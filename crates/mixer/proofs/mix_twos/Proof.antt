@@ -20,9 +20,6 @@ Inv-loop w₀ n f k d₀ r₀ w d r =
 abbrev μ-loop : tie.MeasureT-loop
 μ-loop w₀ n f k d₀ r₀ w d r = n - r
 
-mul-d : tie.Need-mul-d Inv-loop μ-loop
-mul-d c = search needs
-
 loop-holds : tie.Need-loop-holds Inv-loop μ-loop
 loop-holds c = (search needs, search needs, omega (arith, zero-mul (c .before .args .f)), search needs, over-none _ _)
 
@@ -46,9 +43,6 @@ add-d c = omega (arith, room (c .before .before .before .before))
 add-r : tie.Need-add-r Inv-loop μ-loop
 add-r c = omega arith
 
-loop-less : tie.Need-loop-less Inv-loop μ-loop
-loop-less c = search needs
-
 loop-again : tie.Need-loop-again Inv-loop μ-loop
 loop-again c =
     let l = c .before .before .before .before .before .loop in
@@ -60,9 +54,6 @@ loop-again c =
       rows-two (a .n) (a .f) (l .r) (l .d) (a .k) (a .w .now) (l .w) _ (omega arith) (omega arith) (omega arith) (omega arith) (l .inv .2) (l .inv .4)
           (c .before .before .mix-two .ensures),
     )
-
-same-length : tie.Need-same-length Inv-loop μ-loop
-same-length c = search needs
 
 returns : tie.Need-returns Inv-loop μ-loop
 unfolding mixedRows
@@ -77,13 +68,13 @@ mix-twos-spec =
     (tie.spec
     Inv-loop
     μ-loop
-    mul-d
+    (λ c. search needs)
     loop-holds
     add-e
     mix-two-requires
     add-d
     add-r
-    loop-less
+    (λ c. search needs)
     loop-again
-    same-length
+    (λ c. search needs)
     returns)

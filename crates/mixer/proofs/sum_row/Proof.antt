@@ -12,16 +12,10 @@ copy-row-requires c κs =
     let a = c .before .before .args in
     omega (arith, row-ends 0 (a .n) (a .f) (omega arith))
 
-sub-sum-rows : tie.Need-sub-sum-rows
-sub-sum-rows c = search needs
-
 sum-rows-requires : tie.Need-sum-rows-requires
 sum-rows-requires c κs =
     let a = c .before .before .before .before .before .before .args in
     omega (arith, row-ends (a .n - 1) (a .n) (a .f) (omega arith))
-
-same-length : tie.Need-same-length
-same-length c = search needs
 
 returns : tie.Need-returns
 returns c =
@@ -33,4 +27,4 @@ returns c =
 
 pub sum-row-spec : {M : Type 1} → statement M
 sum-row-spec =
-    tie.close (tie.spec copy-row-requires sub-sum-rows sum-rows-requires same-length returns)
+    tie.close (tie.spec copy-row-requires (λ c. search needs) sum-rows-requires (λ c. search needs) returns)

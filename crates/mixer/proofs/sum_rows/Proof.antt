@@ -28,19 +28,10 @@ add-s c =
     let a = c .before .before .before .args in
     omega (arith, row-ends (c .before .loop .c) (a .last) (a .f) (omega arith))
 
-add-c : tie.Need-add-c Inv-loop μ-loop
-add-c c = search needs
-
-minus-requires : tie.Need-minus-requires Inv-loop μ-loop
-minus-requires c κs = search needs
-
 plus-minus-row-requires : tie.Need-plus-minus-row-requires Inv-loop μ-loop
 plus-minus-row-requires c κs =
     let a = c .before .before .before .before .before .args in
     omega (arith, row-ends (c .before .before .before .loop .c) (a .last) (a .f) (omega arith))
-
-loop-less : tie.Need-loop-less Inv-loop μ-loop
-loop-less c = search needs
 
 loop-again : tie.Need-loop-again Inv-loop μ-loop
 loop-again c =
@@ -53,9 +44,6 @@ loop-again c =
       summed-more (a .r) (a .d) (a .f) (l .c) (l .s) (a .w .now) (l .w) (omega arith) (omega arith) (l .inv .1) (l .inv .3)
           (c .before .before .before .minus .ensures) (c .before .before .plus-minus-row .ensures),
     )
-
-same-length : tie.Need-same-length Inv-loop μ-loop
-same-length c = search needs
 
 returns : tie.Need-returns Inv-loop μ-loop
 returns c =
@@ -71,10 +59,10 @@ sum-rows-spec =
     μ-loop
     loop-holds
     add-s
-    add-c
-    minus-requires
+    (λ c. search needs)
+    (λ c κs. search needs)
     plus-minus-row-requires
-    loop-less
+    (λ c. search needs)
     loop-again
-    same-length
+    (λ c. search needs)
     returns)

@@ -23,15 +23,6 @@ use Rattle.opening.proofs.Opened.{open-fits, open-long, laid-after}
 use Rattle.opening.proofs.open_apply.Statement.{statement}
 use Rattle.opening.proofs.open_apply.Tie as tie
 
-judge-open-apply-requires : tie.Need-judge-open-apply-requires
-judge-open-apply-requires c κs = search needs
-
-is-accepted-requires : tie.Need-is-accepted-requires
-is-accepted-requires c κs = search needs
-
-quiet-requires : tie.Need-quiet-requires
-quiet-requires c κs = search needs
-
 returns : tie.Need-returns
 returns c =
     let tested = c .before .before in
@@ -45,12 +36,6 @@ returns c =
       c .quiet .ensures ∙ (λ i. outcome (e i) (old-left _ b _ e t (opened wall u (Play.apply (a .t) (now (a .coefficients)) (now (a .input)))) u h i) TailComplete),
       old-left _ b _ e t (openWork wall u (now (a .input)) (now (a .store))) (now (a .work)) h,
     )
-
-tail-count-requires : tie.Need-tail-count-requires
-tail-count-requires c κs = search needs
-
-filters-of-requires : tie.Need-filters-of-requires
-filters-of-requires c κs = search needs
 
 begin-work-requires : tie.Need-begin-work-requires
 begin-work-requires c κs =
@@ -66,30 +51,12 @@ begin-work-requires c κs =
     let o = open-fits u store work (g .due) in
     (o .fits, o .rings)
 
-sub-copy : tie.Need-sub-copy
-sub-copy c = search needs
-
-part-copy-start : tie.Need-part-copy-start
-part-copy-start c = search needs
-
 part-copy-end : tie.Need-part-copy-end
 part-copy-end c =
     let begun = c .before .before in
     let a = begun .before .before .before .before .before .before .before .before .before .before .before .args in
     let e = begun .begin-work .ensures in
     rw e (open-long (a .s .frame) (now (a .store)))
-
-copy-requires : tie.Need-copy-requires
-copy-requires c κs = search needs
-
-opened-requires : tie.Need-opened-requires
-opened-requires c κs = search needs
-
-quiet-requires-2 : tie.Need-quiet-requires-2
-quiet-requires-2 c κs = search needs
-
-same-length : tie.Need-same-length
-same-length c = search needs
 
 returns-2 : tie.Need-returns-2
 returns-2 c =
@@ -124,18 +91,18 @@ pub open-apply-spec : {M : Type 1} → statement M
 open-apply-spec =
     tie.close
     (tie.spec
-    judge-open-apply-requires
-    is-accepted-requires
-    quiet-requires
+    (λ c κs. search needs)
+    (λ c κs. search needs)
+    (λ c κs. search needs)
     returns
-    tail-count-requires
-    filters-of-requires
+    (λ c κs. search needs)
+    (λ c κs. search needs)
     begin-work-requires
-    sub-copy
-    part-copy-start
+    (λ c. search needs)
+    (λ c. search needs)
     part-copy-end
-    copy-requires
-    opened-requires
-    quiet-requires-2
-    same-length
+    (λ c κs. search needs)
+    (λ c κs. search needs)
+    (λ c κs. search needs)
+    (λ c. search needs)
     returns-2)

@@ -23,15 +23,6 @@ use Rattle.opening.proofs.Opened.{open-fits}
 use Rattle.opening.proofs.open_tail.Statement.{statement}
 use Rattle.opening.proofs.open_tail.Tie as tie
 
-judge-open-tail-requires : tie.Need-judge-open-tail-requires
-judge-open-tail-requires c κs = search needs
-
-is-accepted-requires : tie.Need-is-accepted-requires
-is-accepted-requires c κs = search needs
-
-quiet-requires : tie.Need-quiet-requires
-quiet-requires c κs = search needs
-
 returns : tie.Need-returns
 returns c =
     let tested = c .before .before in
@@ -59,18 +50,6 @@ begin-work-requires c κs =
     let o = open-fits u store work (due-of u (storeOk wall u store && workOk wall u work) true (not (u .busy)) (is-accepted _ through)) in
     (o .fits, o .rings)
 
-fallen-requires : tie.Need-fallen-requires
-fallen-requires c κs = search needs
-
-opened-requires : tie.Need-opened-requires
-opened-requires c κs = search needs
-
-quiet-requires-2 : tie.Need-quiet-requires-2
-quiet-requires-2 c κs = search needs
-
-same-length : tie.Need-same-length
-same-length c = search needs
-
 returns-2 : tie.Need-returns-2
 returns-2 c =
     let made = c .before in
@@ -96,13 +75,13 @@ pub open-tail-spec : {M : Type 1} → statement M
 open-tail-spec =
     tie.close
     (tie.spec
-    judge-open-tail-requires
-    is-accepted-requires
-    quiet-requires
+    (λ c κs. search needs)
+    (λ c κs. search needs)
+    (λ c κs. search needs)
     returns
     begin-work-requires
-    fallen-requires
-    opened-requires
-    quiet-requires-2
-    same-length
+    (λ c κs. search needs)
+    (λ c κs. search needs)
+    (λ c κs. search needs)
+    (λ c. search needs)
     returns-2)

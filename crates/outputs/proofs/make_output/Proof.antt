@@ -19,9 +19,6 @@ use Rattle.outputs.proofs.make_output.Lts as lts
 use Rattle.rows.proofs.work_for.Reads as work-for-reads
 use Rattle.outputs.proofs.wall_output.Reads as wall-output-reads
 
-work-for-requires : tie.Need-work-for-requires
-work-for-requires c κs = search needs
-
 nothing : (f : ℕ) (qs : List Cursors) (fs : List Filter) (work : List Float) → (fs ≡ outputEnds wall f qs fs false work) × (work ≡ outputLaid wall f qs fs false work)
 unfolding outputEnds outputLaid
 nothing f qs fs work = (refl, refl)
@@ -36,9 +33,6 @@ wall-output-requires c κs =
     let tested = c .before in
     work-fits _ _ (let-in _ _ (tested .before .work-for .ensures) (tested .if1 .left))
 
-same-length : tie.Need-same-length
-same-length c = search needs
-
 returns-2 : tie.Need-returns-2
 returns-2 c =
     let ran = c .before .before in
@@ -47,4 +41,4 @@ returns-2 c =
 
 pub make-output-spec : {M : Type 1} → statement M
 make-output-spec =
-    tie.close (tie.spec work-for-requires returns wall-output-requires same-length returns-2)
+    tie.close (tie.spec (λ c κs. search needs) returns wall-output-requires (λ c. search needs) returns-2)

@@ -21,9 +21,6 @@ use Rattle.outputs.proofs.output_row.Lts as lts
 use Rattle.rows.proofs.output_fits.Reads as output-fits-reads
 use Rattle.outputs.proofs.passes.output_in.Reads as output-in-reads
 
-output-fits-requires : tie.Need-output-fits-requires
-output-fits-requires c κs = search needs
-
 nothing : (n f : ℕ) (d : Float) (ps : List ℕ) (qs : List Cursors) (fs : List Filter) (rows : List Float) → outputFits n f ps (length rows) ≡ false
     → (fs ≡ outputAfter n f d ps qs fs rows) × (rows ≡ outputMade n f d ps qs fs rows)
 unfolding outputAfter outputMade
@@ -46,9 +43,6 @@ output-in-requires c κs =
     let tested = c .before in
     output-of _ _ _ _ (let-in _ _ (tested .before .output-fits .ensures) (tested .if1 .left))
 
-same-length : tie.Need-same-length
-same-length c = search needs
-
 returns-2 : tie.Need-returns-2
 returns-2 c =
     let ran = c .before .before in
@@ -58,4 +52,4 @@ returns-2 c =
 
 pub output-row-spec : {M : Type 1} → statement M
 output-row-spec =
-    tie.close (tie.spec output-fits-requires returns output-in-requires same-length returns-2)
+    tie.close (tie.spec (λ c κs. search needs) returns output-in-requires (λ c. search needs) returns-2)

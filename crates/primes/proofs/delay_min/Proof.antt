@@ -5,12 +5,6 @@ use Rattle.primes.proofs.Laws.{value-yes, value-no, min-of}
 use Rattle.primes.proofs.delay_min.Statement.{statement}
 use Rattle.primes.proofs.delay_min.Tie as tie
 
-judge-min-requires : tie.Need-judge-min-requires
-judge-min-requires c κs = search needs
-
-is-accepted-requires : tie.Need-is-accepted-requires
-is-accepted-requires c κs = search needs
-
 least-requires : tie.Need-least-requires
 least-requires c κs = let k = min-of _ _ (let-by (c .before .before .judge-min .ensures) (c .before .is-accepted .ensures) (c .if1 .taken)) in (k .time, k .rates .hi)
 
@@ -22,4 +16,4 @@ returns-2 c = value-no (c .before .before .judge-min .ensures) (c .before .is-ac
 
 pub delay-min-spec : {M : Type 1} → statement M
 delay-min-spec =
-    tie.close (tie.spec judge-min-requires is-accepted-requires least-requires returns returns-2)
+    tie.close (tie.spec (λ c κs. search needs) (λ c κs. search needs) least-requires returns returns-2)

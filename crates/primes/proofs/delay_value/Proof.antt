@@ -6,12 +6,6 @@ use Rattle.primes.proofs.Laws.{value-yes, value-no, Timed, value-of}
 use Rattle.primes.proofs.delay_value.Statement.{statement}
 use Rattle.primes.proofs.delay_value.Tie as tie
 
-judge-value-requires : tie.Need-judge-value-requires
-judge-value-requires c κs = search needs
-
-is-accepted-requires : tie.Need-is-accepted-requires
-is-accepted-requires c κs = search needs
-
 known : (c : tie.Then1) → let a = c .before .before .before .args in Timed (a .time) (a .rate) × (a .index < 16)
 known c = value-of _ _ _ (let-by (c .before .before .judge-value .ensures) (c .before .is-accepted .ensures) (c .if1 .taken))
 
@@ -31,8 +25,8 @@ pub delay-value-spec : {M : Type 1} → statement M
 delay-value-spec =
     tie.close
     (tie.spec
-    judge-value-requires
-    is-accepted-requires
+    (λ c κs. search needs)
+    (λ c κs. search needs)
     least-requires
     value-at-requires
     returns

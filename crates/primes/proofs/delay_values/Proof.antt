@@ -9,12 +9,6 @@ use Rattle.primes.proofs.Laws.{Timed, values-of}
 use Rattle.primes.proofs.delay_values.Statement.{statement}
 use Rattle.primes.proofs.delay_values.Tie as tie
 
-judge-values-requires : tie.Need-judge-values-requires
-judge-values-requires c κs = search needs
-
-is-accepted-requires : tie.Need-is-accepted-requires
-is-accepted-requires c κs = search needs
-
 returns : tie.Need-returns
 returns c =
     let e = c .before .before .judge-values .ensures in
@@ -29,9 +23,6 @@ least-requires c κs = let k = known c .0 in (k .time, k .rates .hi)
 set-values-requires : tie.Need-set-values-requires
 set-values-requires c κs = let k = known (c .before .before) in (c .before .least .ensures .1, k .1, k .2)
 
-same-length : tie.Need-same-length
-same-length c = search needs
-
 returns-2 : tie.Need-returns-2
 returns-2 c =
     let s = c .before .before in
@@ -44,10 +35,10 @@ pub delay-values-spec : {M : Type 1} → statement M
 delay-values-spec =
     tie.close
     (tie.spec
-    judge-values-requires
-    is-accepted-requires
+    (λ c κs. search needs)
+    (λ c κs. search needs)
     returns
     least-requires
     set-values-requires
-    same-length
+    (λ c. search needs)
     returns-2)

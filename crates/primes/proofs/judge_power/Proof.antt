@@ -3,14 +3,8 @@ use borrow.Author.Needs.{needs}
 use Rattle.primes.proofs.judge_power.Statement.{statement}
 use Rattle.primes.proofs.judge_power.Tie as tie
 
-judge-index-requires : tie.Need-judge-index-requires
-judge-index-requires c κs = search needs
-
-need-requires : tie.Need-need-requires
-need-requires c κs = search needs
-
 returns : tie.Need-returns
 returns c = rw (c .before .judge-index .ensures) at (c .need .ensures)
 
 pub judge-power-spec : {M : Type 1} → statement M
-judge-power-spec = tie.close (tie.spec judge-index-requires need-requires returns)
+judge-power-spec = tie.close (tie.spec (λ c κs. search needs) (λ c κs. search needs) returns)

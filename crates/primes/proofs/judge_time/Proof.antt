@@ -6,14 +6,8 @@ use Rattle.samples.proofs.Laws.{need-of}
 use Rattle.primes.proofs.judge_time.Statement.{statement}
 use Rattle.primes.proofs.judge_time.Tie as tie
 
-time-ok-requires : tie.Need-time-ok-requires
-time-ok-requires c κs = search needs
-
-need-requires : tie.Need-need-requires
-need-requires c κs = search needs
-
 returns : tie.Need-returns
 returns c = need-of BadTime (c .need .ensures) (c .before .time-ok .ensures) refl
 
 pub judge-time-spec : {M : Type 1} → statement M
-judge-time-spec = tie.close (tie.spec time-ok-requires need-requires returns)
+judge-time-spec = tie.close (tie.spec (λ c κs. search needs) (λ c κs. search needs) returns)

@@ -9,9 +9,6 @@ use Rattle.primes.proofs.Laws.{min-upto, min-range}
 use Rattle.primes.proofs.least.Statement.{statement}
 use Rattle.primes.proofs.least.Tie as tie
 
-nearest-u32-to-f32-requires : tie.Need-nearest-u32-to-f32-requires
-nearest-u32-to-f32-requires c κs = search needs
-
 truncating-f32-to-u64-requires : tie.Need-truncating-f32-to-u64-requires
 truncating-f32-to-u64-requires c κs =
     let a = c .before in
@@ -32,4 +29,4 @@ returns c = cut c
 pub least-spec : {M : Type 1} → statement M
 least-spec =
     tie.close
-    (tie.spec nearest-u32-to-f32-requires truncating-f32-to-u64-requires cast-result returns)
+    (tie.spec (λ c κs. search needs) truncating-f32-to-u64-requires cast-result returns)

@@ -5,12 +5,6 @@ use Rattle.primes.proofs.Laws.{value-yes, value-no, index-of}
 use Rattle.primes.proofs.prime.Statement.{statement}
 use Rattle.primes.proofs.prime.Tie as tie
 
-judge-index-requires : tie.Need-judge-index-requires
-judge-index-requires c κs = search needs
-
-is-accepted-requires : tie.Need-is-accepted-requires
-is-accepted-requires c κs = search needs
-
 prime-at-requires : tie.Need-prime-at-requires
 prime-at-requires c κs = index-of _ (let-by (c .before .before .judge-index .ensures) (c .before .is-accepted .ensures) (c .if1 .taken))
 
@@ -23,4 +17,4 @@ returns-2 c = value-no (c .before .before .judge-index .ensures) (c .before .is-
 pub prime-spec : {M : Type 1} → statement M
 prime-spec =
     tie.close
-    (tie.spec judge-index-requires is-accepted-requires prime-at-requires returns returns-2)
+    (tie.spec (λ c κs. search needs) (λ c κs. search needs) prime-at-requires returns returns-2)

@@ -5,12 +5,6 @@ use Rattle.primes.proofs.Laws.{value-yes, value-no, power-of}
 use Rattle.primes.proofs.prime_power.Statement.{statement}
 use Rattle.primes.proofs.prime_power.Tie as tie
 
-judge-power-requires : tie.Need-judge-power-requires
-judge-power-requires c κs = search needs
-
-is-accepted-requires : tie.Need-is-accepted-requires
-is-accepted-requires c κs = search needs
-
 power-at-requires : tie.Need-power-at-requires
 power-at-requires c κs = power-of _ _ (let-by (c .before .before .judge-power .ensures) (c .before .is-accepted .ensures) (c .if1 .taken))
 
@@ -23,4 +17,4 @@ returns-2 c = value-no (c .before .before .judge-power .ensures) (c .before .is-
 pub prime-power-spec : {M : Type 1} → statement M
 prime-power-spec =
     tie.close
-    (tie.spec judge-power-requires is-accepted-requires power-at-requires returns returns-2)
+    (tie.spec (λ c κs. search needs) (λ c κs. search needs) power-at-requires returns returns-2)

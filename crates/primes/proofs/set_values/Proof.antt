@@ -20,30 +20,6 @@ Inv-loop least randoms out₀ i₀ out i =
 abbrev μ-loop : tie.MeasureT-loop
 μ-loop least randoms out₀ i₀ out i = 16 - i
 
-loop-holds : tie.Need-loop-holds Inv-loop μ-loop
-loop-holds c = search needs
-
-mul-value-at : tie.Need-mul-value-at Inv-loop μ-loop
-mul-value-at c = search needs
-
-shared-slice-read-value-at : tie.Need-shared-slice-read-value-at Inv-loop μ-loop
-shared-slice-read-value-at c = search needs
-
-value-at-requires : tie.Need-value-at-requires Inv-loop μ-loop
-value-at-requires c κs = search needs
-
-mul-out : tie.Need-mul-out Inv-loop μ-loop
-mul-out c = search needs
-
-slice-write-out : tie.Need-slice-write-out Inv-loop μ-loop
-slice-write-out c = search needs
-
-add-i : tie.Need-add-i Inv-loop μ-loop
-add-i c = search needs
-
-loop-less : tie.Need-loop-less Inv-loop μ-loop
-loop-less c = search needs
-
 loop-again : tie.Need-loop-again Inv-loop μ-loop
 loop-again c =
     let l = c .before .before .before .loop in
@@ -51,9 +27,6 @@ loop-again c =
     let h : l .i < 16 = search needs in
     let turn = values-next (a .args .least) (l .i) (now (a .args .randoms)) (omega (arith, a .pre .1)) in
     (search needs, simp length-set (search needs), stored (l .out) (l .i) 0 (omega arith) (c .value-at .result) (turn ∙ rw (c .value-at .ensures) refl) ∙ l .inv .2)
-
-same-length : tie.Need-same-length Inv-loop μ-loop
-same-length c = search needs
 
 returns : tie.Need-returns Inv-loop μ-loop
 returns c =
@@ -69,14 +42,14 @@ set-values-spec =
     (tie.spec
     Inv-loop
     μ-loop
-    loop-holds
-    mul-value-at
-    shared-slice-read-value-at
-    value-at-requires
-    mul-out
-    slice-write-out
-    add-i
-    loop-less
+    (λ c. search needs)
+    (λ c. search needs)
+    (λ c. search needs)
+    (λ c κs. search needs)
+    (λ c. search needs)
+    (λ c. search needs)
+    (λ c. search needs)
+    (λ c. search needs)
     loop-again
-    same-length
+    (λ c. search needs)
     returns)

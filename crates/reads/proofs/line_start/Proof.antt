@@ -21,20 +21,11 @@ loop-holds : tie.Need-loop-holds Inv-loop μ-loop
 unfolding total
 loop-holds c = (omega arith, refl, omega arith)
 
-delay-requires : tie.Need-delay-requires Inv-loop μ-loop
-delay-requires c κs = search needs
-
 add-a : tie.Need-add-a Inv-loop μ-loop
 add-a c = let l = c .before .before in omega (arith, delay-range (l .loop .j) .1, c .delay .ensures, l .before .pre .1)
 
 add-a-2 : tie.Need-add-a-2 Inv-loop μ-loop
 add-a-2 c = let l = c .before .before in omega (arith, delay-range (l .loop .j) .1, c .delay .ensures, l .before .pre .1, l .before .pre .0, l .loop .inv .2, c .before .loop-test .taken)
-
-add-j : tie.Need-add-j Inv-loop μ-loop
-add-j c = search needs
-
-loop-less : tie.Need-loop-less Inv-loop μ-loop
-loop-less c = search needs
 
 loop-again : tie.Need-loop-again Inv-loop μ-loop
 loop-again c =
@@ -55,10 +46,10 @@ line-start-spec =
     Inv-loop
     μ-loop
     loop-holds
-    delay-requires
+    (λ c κs. search needs)
     add-a
     add-a-2
-    add-j
-    loop-less
+    (λ c. search needs)
+    (λ c. search needs)
     loop-again
     returns)

@@ -14,9 +14,6 @@ use Rattle.reads.proofs.ReadLaid.{line-fits}
 use Rattle.reads.proofs.read_line.Statement.{statement}
 use Rattle.reads.proofs.read_line.Tie as tie
 
-line-room-requires : tie.Need-line-room-requires
-line-room-requires c κs = search needs
-
 nothing : (f i : ℕ) (k : Cursors) (store work : List Float) → work ≡ readLaid wall f i k false store work
 unfolding readLaid
 nothing f i k store work = refl
@@ -31,9 +28,6 @@ wall-read-requires c κs =
     let tested = c .before in
     line-fits _ _ _ _ (let-in _ _ (tested .before .line-room .ensures) (tested .if1 .left))
 
-same-length : tie.Need-same-length
-same-length c = search needs
-
 returns-2 : tie.Need-returns-2
 returns-2 c =
     let ran = c .before .before in
@@ -42,4 +36,4 @@ returns-2 c =
 
 pub read-line-spec : {M : Type 1} → statement M
 read-line-spec =
-    tie.close (tie.spec line-room-requires returns wall-read-requires same-length returns-2)
+    tie.close (tie.spec (λ c κs. search needs) returns wall-read-requires (λ c. search needs) returns-2)

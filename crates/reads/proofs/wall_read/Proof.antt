@@ -27,12 +27,6 @@ module _ (c : lts.After-delay (line-start-reads.Asked, line-start-reads.Learnt, 
   row-ends : s .args .f + s .args .i * s .args .f + s .args .f ≤ length (now (s .args .work))
   row-ends = row-within (s .args .f) (s .args .i) (now (s .args .store)) (now (s .args .work)) (s .pre .0) (s .pre .2) (s .pre .1)
 
-line-start-requires : tie.Need-line-start-requires
-line-start-requires c κs = search needs
-
-delay-requires : tie.Need-delay-requires
-delay-requires c κs = search needs
-
 add-e : tie.Need-add-e
 add-e c = omega (arith, ring-ends c)
 
@@ -51,32 +45,14 @@ add-t c = omega (arith, row-ends c)
 mul-get : tie.Need-mul-get
 mul-get c = let p = s c in omega (arith, ring-ends c, p .pre .2, store-is (p .args .f), p .pre .1 .short)
 
-sub-get : tie.Need-sub-get
-sub-get c = search needs
-
-part-get-start : tie.Need-part-get-start
-part-get-start c = search needs
-
 part-get-end : tie.Need-part-get-end
 part-get-end c = omega (arith, ring-ends c)
 
 mul-get-2 : tie.Need-mul-get-2
 mul-get-2 c = let p = s (c .before) in omega (arith, row-in (p .args .i) (p .args .f) (p .pre .0), p .pre .1 .short)
 
-sub-get-2 : tie.Need-sub-get-2
-sub-get-2 c = search needs
-
-part-get-start-2 : tie.Need-part-get-start-2
-part-get-start-2 c = search needs
-
 part-get-end-2 : tie.Need-part-get-end-2
 part-get-end-2 c = omega (arith, row-ends (c .before))
-
-get-requires : tie.Need-get-requires
-get-requires c κs = search needs
-
-same-length : tie.Need-same-length
-same-length c = search needs
 
 returns : tie.Need-returns
 returns c =
@@ -89,21 +65,21 @@ pub wall-read-spec : {M : Type 1} → statement M
 wall-read-spec =
     tie.close
     (tie.spec
-    line-start-requires
-    delay-requires
+    (λ c κs. search needs)
+    (λ c κs. search needs)
     add-e
     add-e-2
     mul-b
     add-b
     add-t
     mul-get
-    sub-get
-    part-get-start
+    (λ c. search needs)
+    (λ c. search needs)
     part-get-end
     mul-get-2
-    sub-get-2
-    part-get-start-2
+    (λ c. search needs)
+    (λ c. search needs)
     part-get-end-2
-    get-requires
-    same-length
+    (λ c κs. search needs)
+    (λ c. search needs)
     returns)

@@ -27,15 +27,6 @@ use Rattle.filters.proofs.filters_of.Reads as filters-of-reads
 use Rattle.frame.proofs.copy.Reads as copy-reads
 use Rattle.reverb.proofs.units.whole_frame.Reads as whole-frame-reads
 
-judge-apply-requires : tie.Need-judge-apply-requires
-judge-apply-requires c κs = search needs
-
-is-accepted-requires : tie.Need-is-accepted-requires
-is-accepted-requires c κs = search needs
-
-quiet-requires : tie.Need-quiet-requires
-quiet-requires c κs = search needs
-
 returns : tie.Need-returns
 returns c =
     let tested = c .before .before in
@@ -82,23 +73,8 @@ fits p =
     let a = p .before .before .before .before .before .before .before .before .args in
     apply-fits (ofState (a .s)) (a .t) (now (a .coefficients)) (now (a .input)) _ _ _ (is-accepted _ (through p))
 
-tail-count-requires : tie.Need-tail-count-requires
-tail-count-requires c κs = search needs
-
-filters-of-requires : tie.Need-filters-of-requires
-filters-of-requires c κs = search needs
-
-sub-copy : tie.Need-sub-copy
-sub-copy c = search needs
-
-part-copy-start : tie.Need-part-copy-start
-part-copy-start c = search needs
-
 part-copy-end : tie.Need-part-copy-end
 part-copy-end c = fits (c .before .before) .holds
-
-copy-requires : tie.Need-copy-requires
-copy-requires c κs = search needs
 
 whole-frame-requires : tie.Need-whole-frame-requires
 whole-frame-requires c κs =
@@ -108,15 +84,6 @@ whole-frame-requires c κs =
     let h = fits p in
     let b = begun (a .s .frame) (now (a .input)) (now (a .work)) _ (h .what .row) (h .holds) (copied .copy .ensures) in
     rw (b .1) (h .room)
-
-same-length : tie.Need-same-length
-same-length c = search needs
-
-same-length-2 : tie.Need-same-length-2
-same-length-2 c = search needs
-
-same-length-3 : tie.Need-same-length-3
-same-length-3 c = search needs
 
 returns-2 : tie.Need-returns-2
 returns-2 c =
@@ -138,18 +105,18 @@ pub apply-spec : {M : Type 1} → statement M
 apply-spec =
     tie.close
     (tie.spec
-    judge-apply-requires
-    is-accepted-requires
-    quiet-requires
+    (λ c κs. search needs)
+    (λ c κs. search needs)
+    (λ c κs. search needs)
     returns
-    tail-count-requires
-    filters-of-requires
-    sub-copy
-    part-copy-start
+    (λ c κs. search needs)
+    (λ c κs. search needs)
+    (λ c. search needs)
+    (λ c. search needs)
     part-copy-end
-    copy-requires
+    (λ c κs. search needs)
     whole-frame-requires
-    same-length
-    same-length-2
-    same-length-3
+    (λ c. search needs)
+    (λ c. search needs)
+    (λ c. search needs)
     returns-2)

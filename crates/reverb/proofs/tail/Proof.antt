@@ -17,15 +17,6 @@ use Rattle.samples.proofs.Laws.{is-accepted}
 use Rattle.reverb.proofs.tail.Statement.{statement}
 use Rattle.reverb.proofs.tail.Tie as tie
 
-judge-tail-requires : tie.Need-judge-tail-requires
-judge-tail-requires c κs = search needs
-
-is-accepted-requires : tie.Need-is-accepted-requires
-is-accepted-requires c κs = search needs
-
-quiet-requires : tie.Need-quiet-requires
-quiet-requires c κs = search needs
-
 returns : tie.Need-returns
 returns c =
     let tested = c .before .before in
@@ -36,9 +27,6 @@ returns c =
     let e = judged .judge-tail .ensures in
     let shut = refused _ due _ e (tested .is-accepted .ensures) (c .before .if1 .taken) in
     all-as-was u due _ (tailFrame wall u (now (a .store))) (fallen (u .count)) _ (now (a .store)) (now (a .work)) (now (a .output)) shut e (c .quiet .ensures)
-
-fallen-requires : tie.Need-fallen-requires
-fallen-requires c κs = search needs
 
 whole-frame-requires : tie.Need-whole-frame-requires
 whole-frame-requires c κs =
@@ -54,15 +42,6 @@ whole-frame-requires c κs =
     let through = let-by _ due _ (judged .judge-tail .ensures) (tested .is-accepted .ensures) (passed .if1 .left) in
     let d = due-of u (lentOk wall u store work output) _ (not (u .busy)) (is-accepted due through) in
     room-of u store work output d (d .lent)
-
-same-length : tie.Need-same-length
-same-length c = search needs
-
-same-length-2 : tie.Need-same-length-2
-same-length-2 c = search needs
-
-same-length-3 : tie.Need-same-length-3
-same-length-3 c = search needs
 
 returns-2 : tie.Need-returns-2
 returns-2 c =
@@ -84,13 +63,13 @@ pub tail-spec : {M : Type 1} → statement M
 tail-spec =
     tie.close
     (tie.spec
-    judge-tail-requires
-    is-accepted-requires
-    quiet-requires
+    (λ c κs. search needs)
+    (λ c κs. search needs)
+    (λ c κs. search needs)
     returns
-    fallen-requires
+    (λ c κs. search needs)
     whole-frame-requires
-    same-length
-    same-length-2
-    same-length-3
+    (λ c. search needs)
+    (λ c. search needs)
+    (λ c. search needs)
     returns-2)

@@ -19,9 +19,6 @@ use Rattle.rows.proofs.line_rows.Lts as lts
 use Rattle.rows.proofs.fits.lines_fit.Reads as lines-fit-reads
 use Rattle.rows.proofs.lines_in.Reads as lines-in-reads
 
-lines-fit-requires : tie.Need-lines-fit-requires
-lines-fit-requires c κs = search needs
-
 nothing : (n f : ℕ) (k : Float) (tail : Bool) (fs : List Filter) (rows : List Float) → linesFit n f (length rows) ≡ false
     → (fs ≡ linesEnds n f k tail fs rows) × (rows ≡ linesLaid n f k tail fs rows)
 unfolding linesEnds linesLaid
@@ -44,9 +41,6 @@ lines-in-requires c κs =
     let tested = c .before in
     lines-of _ _ _ (let-in _ _ (tested .before .lines-fit .ensures) (tested .if1 .left))
 
-same-length : tie.Need-same-length
-same-length c = search needs
-
 returns-2 : tie.Need-returns-2
 returns-2 c =
     let ran = c .before .before in
@@ -56,4 +50,4 @@ returns-2 c =
 
 pub line-rows-spec : {M : Type 1} → statement M
 line-rows-spec =
-    tie.close (tie.spec lines-fit-requires returns lines-in-requires same-length returns-2)
+    tie.close (tie.spec (λ c κs. search needs) returns lines-in-requires (λ c. search needs) returns-2)

@@ -22,12 +22,6 @@ use Rattle.rows.proofs.fits.work_for.Reads as work-for-reads
 use Rattle.rows.proofs.wall_line.Reads as wall-line-reads
 use Rattle.samples.proofs.and.Reads as and-reads
 
-work-for-requires : tie.Need-work-for-requires
-work-for-requires c κs = search needs
-
-and-requires : tie.Need-and-requires
-and-requires c κs = search needs
-
 nothing : (f i : ℕ) (tail : Bool) (fs : List Filter) (work : List Float) → (fs ≡ lineEnds wall f i fs false work) × (work ≡ lineLaid wall f i tail fs false work)
 unfolding lineEnds lineLaid
 nothing f i tail fs work = (refl, refl)
@@ -47,9 +41,6 @@ wall-line-requires c κs =
     let p = split-and _ _ (let-in _ _ q (c .before .if1 .left)) in
     (ltb-true _ _ (p .0), work-fits _ _ (p .1))
 
-same-length : tie.Need-same-length
-same-length c = search needs
-
 returns-2 : tie.Need-returns-2
 returns-2 c =
     let ran = c .before .before in
@@ -62,4 +53,4 @@ returns-2 c =
 pub make-line-spec : {M : Type 1} → statement M
 make-line-spec =
     tie.close
-    (tie.spec work-for-requires and-requires returns wall-line-requires same-length returns-2)
+    (tie.spec (λ c κs. search needs) (λ c κs. search needs) returns wall-line-requires (λ c. search needs) returns-2)

@@ -23,9 +23,6 @@ within : (s : lts.Start (three-at-reads.Asked, three-at-reads.Learnt, add-input-
     → 17 * s .args .f + s .args .i * s .args .f + s .args .f ≤ length (now (s .args .work))
 within s = omega (arith, row-in (s .args .i) (s .args .f) (s .pre .0), s .pre .1 .work-is)
 
-mul-b : tie.Need-mul-b
-mul-b c = search needs
-
 mul-b-2 : tie.Need-mul-b-2
 mul-b-2 c = omega (arith, near (c .before))
 
@@ -35,38 +32,14 @@ add-b c = omega (arith, near (c .before))
 add-e : tie.Need-add-e
 add-e c = omega (arith, near (c .before))
 
-mul-three-at : tie.Need-mul-three-at
-mul-three-at c = search needs
-
 mul-three-at-2 : tie.Need-mul-three-at-2
 mul-three-at-2 c = omega (arith, near (c .before))
-
-sub-three-at : tie.Need-sub-three-at
-sub-three-at c = search needs
-
-part-three-at-start : tie.Need-part-three-at-start
-part-three-at-start c = search needs
 
 part-three-at-end : tie.Need-part-three-at-end
 part-three-at-end c = search (needs, within (c .before))
 
-three-at-requires : tie.Need-three-at-requires
-three-at-requires c κs = search needs
-
-sub-add-input : tie.Need-sub-add-input
-sub-add-input c = search needs
-
-part-add-input-start : tie.Need-part-add-input-start
-part-add-input-start c = search needs
-
 part-add-input-end : tie.Need-part-add-input-end
 part-add-input-end c = search (needs, within (c .before .before .before .before .before))
-
-add-input-requires : tie.Need-add-input-requires
-add-input-requires c κs = search needs
-
-same-length : tie.Need-same-length
-same-length c = search needs
 
 returns : tie.Need-returns
 returns c =
@@ -81,19 +54,19 @@ pub wall-line-spec : {M : Type 1} → statement M
 wall-line-spec =
     tie.close
     (tie.spec
-    mul-b
+    (λ c. search needs)
     mul-b-2
     add-b
     add-e
-    mul-three-at
+    (λ c. search needs)
     mul-three-at-2
-    sub-three-at
-    part-three-at-start
+    (λ c. search needs)
+    (λ c. search needs)
     part-three-at-end
-    three-at-requires
-    sub-add-input
-    part-add-input-start
+    (λ c κs. search needs)
+    (λ c. search needs)
+    (λ c. search needs)
     part-add-input-end
-    add-input-requires
-    same-length
+    (λ c κs. search needs)
+    (λ c. search needs)
     returns)

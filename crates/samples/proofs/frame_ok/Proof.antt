@@ -7,15 +7,9 @@ use lib.Dec.{leb}
 use Rattle.samples.proofs.frame_ok.Statement.{statement}
 use Rattle.samples.proofs.frame_ok.Tie as tie
 
-and-requires : tie.Need-and-requires
-and-requires c κs = search needs
-
-and-requires-2 : tie.Need-and-requires-2
-and-requires-2 c κs = search needs
-
 returns : tie.Need-returns
 unfolding frameOk
 returns c = c .and2 .ensures ∙ ap (λ (b : Bool). leb 4 (c .before .before .args .frame) && b) (c .before .and .ensures)
 
 pub frame-ok-spec : {M : Type 1} → statement M
-frame-ok-spec = tie.close (tie.spec and-requires and-requires-2 returns)
+frame-ok-spec = tie.close (tie.spec (λ c κs. search needs) (λ c κs. search needs) returns)

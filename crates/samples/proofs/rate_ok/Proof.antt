@@ -4,12 +4,9 @@ use Rattle.samples.specs.Sizes.{rateOk}
 use Rattle.samples.proofs.rate_ok.Statement.{statement}
 use Rattle.samples.proofs.rate_ok.Tie as tie
 
-and-requires : tie.Need-and-requires
-and-requires c κs = search needs
-
 returns : tie.Need-returns
 unfolding rateOk
 returns c = search needs
 
 pub rate-ok-spec : {M : Type 1} → statement M
-rate-ok-spec = tie.close (tie.spec and-requires returns)
+rate-ok-spec = tie.close (tie.spec (λ c κs. search needs) returns)

@@ -49,59 +49,11 @@ Inv-rows rows row found₀ i₀ found i = (i ≤ length rows) × (found ≡ Noth
 abbrev μ-rows : tie.MeasureT-rows
 μ-rows rows row found₀ i₀ found i = length rows - i
 
-rows-holds : tie.Need-rows-holds Inv-loop μ-loop Inv-rows μ-rows
-rows-holds c = search needs
-
-row-end-requires : tie.Need-row-end-requires Inv-loop μ-loop Inv-rows μ-rows
-row-end-requires c κs = search needs
-
-mul-row-finite : tie.Need-mul-row-finite Inv-loop μ-loop Inv-rows μ-rows
-mul-row-finite c = search needs
-
-sub-row-finite : tie.Need-sub-row-finite Inv-loop μ-loop Inv-rows μ-rows
-sub-row-finite c = search needs
-
-part-row-finite-start : tie.Need-part-row-finite-start Inv-loop μ-loop Inv-rows μ-rows
-part-row-finite-start c = search needs
-
-part-row-finite-end : tie.Need-part-row-finite-end Inv-loop μ-loop Inv-rows μ-rows
-part-row-finite-end c = search needs
-
-row-finite-requires : tie.Need-row-finite-requires Inv-loop μ-loop Inv-rows μ-rows
-row-finite-requires c κs = search needs
-
-rows-less : tie.Need-rows-less Inv-loop μ-loop Inv-rows μ-rows
-rows-less c = search needs
-
 rows-again : tie.Need-rows-again Inv-loop μ-loop Inv-rows μ-rows
 rows-again c =
     let r = c .before .before .before .before .before in
     let e = r .rows .inv in
     (omega arith, e .1, passed _ (r .rows .i) _ (omega arith) (e .2) (sym (c .before .row-finite .ensures) ∙ c .if1 .taken))
-
-loop-holds : tie.Need-loop-holds Inv-loop μ-loop Inv-rows μ-rows
-loop-holds c = search needs
-
-rows-less-2 : tie.Need-rows-less-2 Inv-loop μ-loop Inv-rows μ-rows
-rows-less-2 c = search needs
-
-rows-again-2 : tie.Need-rows-again-2 Inv-loop μ-loop Inv-rows μ-rows
-rows-again-2 c = search needs
-
-mul-is-finite : tie.Need-mul-is-finite Inv-loop μ-loop Inv-rows μ-rows
-mul-is-finite c = search needs
-
-shared-slice-read-is-finite : tie.Need-shared-slice-read-is-finite Inv-loop μ-loop Inv-rows μ-rows
-shared-slice-read-is-finite c = search needs
-
-is-finite-requires : tie.Need-is-finite-requires Inv-loop μ-loop Inv-rows μ-rows
-is-finite-requires c κs = search needs
-
-add-i : tie.Need-add-i Inv-loop μ-loop Inv-rows μ-rows
-add-i c = search needs
-
-loop-less : tie.Need-loop-less Inv-loop μ-loop Inv-rows μ-rows
-loop-less c = search needs
 
 loop-again : tie.Need-loop-again Inv-loop μ-loop Inv-rows μ-rows
 loop-again c =
@@ -133,23 +85,23 @@ first-bad-spec =
     μ-loop
     Inv-rows
     μ-rows
-    rows-holds
-    row-end-requires
-    mul-row-finite
-    sub-row-finite
-    part-row-finite-start
-    part-row-finite-end
-    row-finite-requires
-    rows-less
+    (λ c. search needs)
+    (λ c κs. search needs)
+    (λ c. search needs)
+    (λ c. search needs)
+    (λ c. search needs)
+    (λ c. search needs)
+    (λ c κs. search needs)
+    (λ c. search needs)
     rows-again
-    loop-holds
-    rows-less-2
-    rows-again-2
-    mul-is-finite
-    shared-slice-read-is-finite
-    is-finite-requires
-    add-i
-    loop-less
+    (λ c. search needs)
+    (λ c. search needs)
+    (λ c. search needs)
+    (λ c. search needs)
+    (λ c. search needs)
+    (λ c κs. search needs)
+    (λ c. search needs)
+    (λ c. search needs)
     loop-again
     returns
     returns-2)

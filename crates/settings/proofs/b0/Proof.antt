@@ -4,9 +4,6 @@ use mathlib.Core.Path.{sym, _∙_}
 use Rattle.settings.proofs.b0.Statement.{statement}
 use Rattle.settings.proofs.b0.Tie as tie
 
-and-requires : tie.Need-and-requires
-and-requires c κs = search needs
-
 returns : tie.Need-returns
 returns c = rw (sym (c .before .and .ensures) ∙ c .if1 .taken)
 
@@ -14,4 +11,4 @@ returns-2 : tie.Need-returns-2
 returns-2 c = rw (sym (c .before .and .ensures) ∙ c .if1 .left)
 
 pub b0-spec : {M : Type 1} → statement M
-b0-spec = tie.close (tie.spec and-requires returns returns-2)
+b0-spec = tie.close (tie.spec (λ c κs. search needs) returns returns-2)

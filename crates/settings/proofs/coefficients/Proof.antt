@@ -18,27 +18,6 @@ abbrev μ-loop : tie.MeasureT-loop
 loop-holds : tie.Need-loop-holds Inv-loop μ-loop
 loop-holds c = (search needs, refl, none-filled)
 
-b0-requires : tie.Need-b0-requires Inv-loop μ-loop
-b0-requires c κs = search needs
-
-mul-cs : tie.Need-mul-cs Inv-loop μ-loop
-mul-cs c = search needs
-
-add-cs : tie.Need-add-cs Inv-loop μ-loop
-add-cs c = search needs
-
-mul-cs-2 : tie.Need-mul-cs-2 Inv-loop μ-loop
-mul-cs-2 c = search needs
-
-array-write-cs : tie.Need-array-write-cs Inv-loop μ-loop
-array-write-cs c = search needs
-
-add-k : tie.Need-add-k Inv-loop μ-loop
-add-k c = search needs
-
-loop-less : tie.Need-loop-less Inv-loop μ-loop
-loop-less c = search needs
-
 loop-again : tie.Need-loop-again Inv-loop μ-loop
 loop-again c =
     let l = c .before .before .loop in
@@ -58,12 +37,12 @@ coefficients-spec =
     Inv-loop
     μ-loop
     loop-holds
-    b0-requires
-    mul-cs
-    add-cs
-    mul-cs-2
-    array-write-cs
-    add-k
-    loop-less
+    (λ c κs. search needs)
+    (λ c. search needs)
+    (λ c. search needs)
+    (λ c. search needs)
+    (λ c. search needs)
+    (λ c. search needs)
+    (λ c. search needs)
     loop-again
     returns)

@@ -17,13 +17,10 @@ fresh-accepted : judgedFresh wall rate frame storeFloats ≡ Accepted
 unfolding judgedFresh rateOk frameOk storeLen total lengthsFrom
 fresh-accepted = refl
 
-fresh-requires : tie.Need-fresh-requires
-fresh-requires c κs = search needs
-
 returns : tie.Need-returns
 returns c =
     let m : length (now (c .before .before .args .store)) ≡ storeFloats = omega arith in
     rw (m, fresh-accepted) at (c .fresh .ensures)
 
 pub start-spec : {M : Type 1} → statement M
-start-spec = tie.close (tie.spec fresh-requires returns)
+start-spec = tie.close (tie.spec (λ c κs. search needs) returns)

@@ -14,36 +14,6 @@ use Rattle.shell.proofs.Silence.{as-said}
 use Rattle.shell.proofs.input_frame.Statement.{statement}
 use Rattle.shell.proofs.input_frame.Tie as tie
 
-slice-aggregate-decode : tie.Need-slice-aggregate-decode
-slice-aggregate-decode c = search needs
-
-decode-requires : tie.Need-decode-requires
-decode-requires c κs = search needs
-
-times-requires : tie.Need-times-requires
-times-requires c κs = search needs
-
-coefficients-requires : tie.Need-coefficients-requires
-coefficients-requires c κs = search needs
-
-slice-aggregate-apply : tie.Need-slice-aggregate-apply
-slice-aggregate-apply c = search needs
-
-slice-aggregate-apply-2 : tie.Need-slice-aggregate-apply-2
-slice-aggregate-apply-2 c = search needs
-
-slice-aggregate-apply-3 : tie.Need-slice-aggregate-apply-3
-slice-aggregate-apply-3 c = search needs
-
-apply-requires : tie.Need-apply-requires
-apply-requires c κs = search needs
-
-slice-aggregate-encode : tie.Need-slice-aggregate-encode
-slice-aggregate-encode c = search needs
-
-encode-requires : tie.Need-encode-requires
-encode-requires c κs = search needs
-
 returns : tie.Need-returns
 returns c =
     let ran = c .before .before .before .before in
@@ -78,14 +48,14 @@ pub input-frame-spec : {M : Type 1} → statement M
 input-frame-spec =
     tie.close
     (tie.spec
-    slice-aggregate-decode
-    decode-requires
-    times-requires
-    coefficients-requires
-    slice-aggregate-apply
-    slice-aggregate-apply-2
-    slice-aggregate-apply-3
-    apply-requires
-    slice-aggregate-encode
-    encode-requires
+    (λ c. search needs)
+    (λ c κs. search needs)
+    (λ c κs. search needs)
+    (λ c κs. search needs)
+    (λ c. search needs)
+    (λ c. search needs)
+    (λ c. search needs)
+    (λ c κs. search needs)
+    (λ c. search needs)
+    (λ c κs. search needs)
     returns)

@@ -15,18 +15,6 @@ use Rattle.shell.proofs.Silence.{as-said}
 use Rattle.shell.proofs.tail_frame.Statement.{statement}
 use Rattle.shell.proofs.tail_frame.Tie as tie
 
-slice-aggregate-tail : tie.Need-slice-aggregate-tail
-slice-aggregate-tail c = search needs
-
-tail-requires : tie.Need-tail-requires
-tail-requires c κs = search needs
-
-slice-aggregate-encode : tie.Need-slice-aggregate-encode
-slice-aggregate-encode c = search needs
-
-encode-requires : tie.Need-encode-requires
-encode-requires c κs = search needs
-
 returns : tie.Need-returns
 returns c =
     let ran = c .before .before .before .before in
@@ -51,4 +39,4 @@ returns c =
     )
 
 pub tail-frame-spec : {M : Type 1} → statement M
-tail-frame-spec = tie.close (tie.spec slice-aggregate-tail tail-requires slice-aggregate-encode encode-requires returns)
+tail-frame-spec = tie.close (tie.spec (λ c. search needs) (λ c κs. search needs) (λ c. search needs) (λ c κs. search needs) returns)

@@ -14,18 +14,6 @@ use Rattle.silence.proofs.Outcomes.{old-left, new-left}
 use Rattle.silence.proofs.fresh.Statement.{statement}
 use Rattle.silence.proofs.fresh.Tie as tie
 
-judge-fresh-requires : tie.Need-judge-fresh-requires
-judge-fresh-requires c κs = search needs
-
-is-accepted-requires : tie.Need-is-accepted-requires
-is-accepted-requires c κs = search needs
-
-fresh-state-requires : tie.Need-fresh-state-requires
-fresh-state-requires c κs = search needs
-
-quiet-requires : tie.Need-quiet-requires
-quiet-requires c κs = search needs
-
 returns : tie.Need-returns
 returns c =
     let made = c .before in
@@ -41,18 +29,6 @@ returns c =
           ∙ (λ i. outcome (e i) ((ap ofState (made .fresh-state .ensures) ∙ old-left _ b _ e t (freshHall wall (a .rate) (a .frame)) old h) i) TailComplete),
       old-left _ b _ e t (replicate (length (now (a .store))) +0) (now (a .store)) h,
     )
-
-clear-requires : tie.Need-clear-requires
-clear-requires c κs = search needs
-
-fresh-state-requires-2 : tie.Need-fresh-state-requires-2
-fresh-state-requires-2 c κs = search needs
-
-quiet-requires-2 : tie.Need-quiet-requires-2
-quiet-requires-2 c κs = search needs
-
-same-length : tie.Need-same-length
-same-length c = search needs
 
 returns-2 : tie.Need-returns-2
 returns-2 c =
@@ -75,13 +51,13 @@ pub fresh-spec : {M : Type 1} → statement M
 fresh-spec =
     tie.close
     (tie.spec
-    judge-fresh-requires
-    is-accepted-requires
-    fresh-state-requires
-    quiet-requires
+    (λ c κs. search needs)
+    (λ c κs. search needs)
+    (λ c κs. search needs)
+    (λ c κs. search needs)
     returns
-    clear-requires
-    fresh-state-requires-2
-    quiet-requires-2
-    same-length
+    (λ c κs. search needs)
+    (λ c κs. search needs)
+    (λ c κs. search needs)
+    (λ c. search needs)
     returns-2)

@@ -14,15 +14,6 @@ use Rattle.silence.proofs.Outcomes.{old-left, new-left}
 use Rattle.silence.proofs.reset.Statement.{statement}
 use Rattle.silence.proofs.reset.Tie as tie
 
-judge-reset-requires : tie.Need-judge-reset-requires
-judge-reset-requires c κs = search needs
-
-is-accepted-requires : tie.Need-is-accepted-requires
-is-accepted-requires c κs = search needs
-
-quiet-requires : tie.Need-quiet-requires
-quiet-requires c κs = search needs
-
 returns : tie.Need-returns
 returns c =
     let tested = c .before in
@@ -36,15 +27,6 @@ returns c =
       c .quiet .ensures ∙ (λ i. outcome (e i) (old-left _ b _ e t (counted old (pos 0)) old h i) TailComplete),
       old-left _ b _ e t (replicate (length (now (a .store))) +0) (now (a .store)) h,
     )
-
-clear-requires : tie.Need-clear-requires
-clear-requires c κs = search needs
-
-quiet-requires-2 : tie.Need-quiet-requires-2
-quiet-requires-2 c κs = search needs
-
-same-length : tie.Need-same-length
-same-length c = search needs
 
 returns-2 : tie.Need-returns-2
 returns-2 c =
@@ -65,11 +47,11 @@ pub reset-spec : {M : Type 1} → statement M
 reset-spec =
     tie.close
     (tie.spec
-    judge-reset-requires
-    is-accepted-requires
-    quiet-requires
+    (λ c κs. search needs)
+    (λ c κs. search needs)
+    (λ c κs. search needs)
     returns
-    clear-requires
-    quiet-requires-2
-    same-length
+    (λ c κs. search needs)
+    (λ c κs. search needs)
+    (λ c. search needs)
     returns-2)

@@ -8,12 +8,6 @@ use Rattle.judges.specs.Judges.{judged}
 use Rattle.turns.proofs.judge_abandon.Statement.{statement}
 use Rattle.turns.proofs.judge_abandon.Tie as tie
 
-work-ok-requires : tie.Need-work-ok-requires
-work-ok-requires c κs = search needs
-
-judge-requires : tie.Need-judge-requires
-judge-requires c κs = search needs
-
 returns : tie.Need-returns
 returns c =
     let s = c .before .before .args .s in
@@ -23,6 +17,6 @@ pub judge-abandon-spec : {M : Type 1} → statement M
 judge-abandon-spec =
     tie.close
     (tie.spec
-    work-ok-requires
-    judge-requires
+    (λ c κs. search needs)
+    (λ c κs. search needs)
     returns)

@@ -8,18 +8,6 @@ use Rattle.judges.specs.Judges.{judged}
 use Rattle.turns.proofs.judge_close.Statement.{statement}
 use Rattle.turns.proofs.judge_close.Tie as tie
 
-lent-ok-requires : tie.Need-lent-ok-requires
-lent-ok-requires c κs = search needs
-
-all-done-requires : tie.Need-all-done-requires
-all-done-requires c κs = search needs
-
-and-requires : tie.Need-and-requires
-and-requires c κs = search needs
-
-judge-requires : tie.Need-judge-requires
-judge-requires c κs = search needs
-
 returns : tie.Need-returns
 returns c =
     let both = c .before in
@@ -33,8 +21,8 @@ pub judge-close-spec : {M : Type 1} → statement M
 judge-close-spec =
     tie.close
     (tie.spec
-    lent-ok-requires
-    all-done-requires
-    and-requires
-    judge-requires
+    (λ c κs. search needs)
+    (λ c κs. search needs)
+    (λ c κs. search needs)
+    (λ c κs. search needs)
     returns)

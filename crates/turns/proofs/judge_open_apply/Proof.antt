@@ -9,30 +9,6 @@ use Rattle.judges.specs.Judges.{judged}
 use Rattle.turns.proofs.judge_open_apply.Statement.{statement}
 use Rattle.turns.proofs.judge_open_apply.Tie as tie
 
-and-requires : tie.Need-and-requires
-and-requires c κs = search needs
-
-store-ok-requires : tie.Need-store-ok-requires
-store-ok-requires c κs = search needs
-
-work-ok-requires : tie.Need-work-ok-requires
-work-ok-requires c κs = search needs
-
-and-requires-2 : tie.Need-and-requires-2
-and-requires-2 c κs = search needs
-
-and-requires-3 : tie.Need-and-requires-3
-and-requires-3 c κs = search needs
-
-judge-requires : tie.Need-judge-requires
-judge-requires c κs = search needs
-
-judge-given-requires : tie.Need-judge-given-requires
-judge-given-requires c κs = search needs
-
-or-else-requires : tie.Need-or-else-requires
-or-else-requires c κs = search needs
-
 returns : tie.Need-returns
 returns c =
     let given = c .before in
@@ -51,12 +27,12 @@ pub judge-open-apply-spec : {M : Type 1} → statement M
 judge-open-apply-spec =
     tie.close
     (tie.spec
-    and-requires
-    store-ok-requires
-    work-ok-requires
-    and-requires-2
-    and-requires-3
-    judge-requires
-    judge-given-requires
-    or-else-requires
+    (λ c κs. search needs)
+    (λ c κs. search needs)
+    (λ c κs. search needs)
+    (λ c κs. search needs)
+    (λ c κs. search needs)
+    (λ c κs. search needs)
+    (λ c κs. search needs)
+    (λ c κs. search needs)
     returns)

@@ -8,18 +8,6 @@ use Rattle.judges.specs.Judges.{judged}
 use Rattle.turns.proofs.judge_open_tail.Statement.{statement}
 use Rattle.turns.proofs.judge_open_tail.Tie as tie
 
-store-ok-requires : tie.Need-store-ok-requires
-store-ok-requires c κs = search needs
-
-work-ok-requires : tie.Need-work-ok-requires
-work-ok-requires c κs = search needs
-
-and-requires : tie.Need-and-requires
-and-requires c κs = search needs
-
-judge-requires : tie.Need-judge-requires
-judge-requires c κs = search needs
-
 returns : tie.Need-returns
 returns c =
     let lent = c .before in
@@ -32,8 +20,8 @@ pub judge-open-tail-spec : {M : Type 1} → statement M
 judge-open-tail-spec =
     tie.close
     (tie.spec
-    store-ok-requires
-    work-ok-requires
-    and-requires
-    judge-requires
+    (λ c κs. search needs)
+    (λ c κs. search needs)
+    (λ c κs. search needs)
+    (λ c κs. search needs)
     returns)

@@ -3,11 +3,8 @@ use borrow.Author.Needs.{needs}
 use Rattle.unit.proofs.fresh_state.Statement.{statement}
 use Rattle.unit.proofs.fresh_state.Tie as tie
 
-new-from-coefficients-requires : tie.Need-new-from-coefficients-requires
-new-from-coefficients-requires c κs = search needs
-
 returns : tie.Need-returns
 returns c = rw (c .new-from-coefficients .ensures)
 
 pub fresh-state-spec : {M : Type 1} → statement M
-fresh-state-spec = tie.close (tie.spec new-from-coefficients-requires returns)
+fresh-state-spec = tie.close (tie.spec (λ c κs. search needs) returns)

@@ -24,24 +24,6 @@ abbrev μ-loop : tie.MeasureT-loop
 loop-holds : tie.Need-loop-holds Inv-loop μ-loop
 loop-holds c = (search needs, refl, rw sub-zero refl)
 
-mul-sample-at : tie.Need-mul-sample-at Inv-loop μ-loop
-mul-sample-at c = search needs
-
-sample-at-requires : tie.Need-sample-at-requires Inv-loop μ-loop
-sample-at-requires c κs = search needs
-
-mul-out : tie.Need-mul-out Inv-loop μ-loop
-mul-out c = search needs
-
-slice-write-out : tie.Need-slice-write-out Inv-loop μ-loop
-slice-write-out c = search needs
-
-add-i : tie.Need-add-i Inv-loop μ-loop
-add-i c = search needs
-
-loop-less : tie.Need-loop-less Inv-loop μ-loop
-loop-less c = search needs
-
 loop-again : tie.Need-loop-again Inv-loop μ-loop
 loop-again c =
     let l = c .before .before .loop in
@@ -51,9 +33,6 @@ loop-again c =
       simp length-set (l .inv .1),
       stored (l .out) (l .i) nan (omega arith) _ (rw (c .sample-at .ensures) e) ∙ l .inv .2,
     )
-
-same-length : tie.Need-same-length Inv-loop μ-loop
-same-length c = search needs
 
 returns : tie.Need-returns Inv-loop μ-loop
 returns c =
@@ -68,12 +47,12 @@ decode-spec =
     Inv-loop
     μ-loop
     loop-holds
-    mul-sample-at
-    sample-at-requires
-    mul-out
-    slice-write-out
-    add-i
-    loop-less
+    (λ c. search needs)
+    (λ c κs. search needs)
+    (λ c. search needs)
+    (λ c. search needs)
+    (λ c. search needs)
+    (λ c. search needs)
     loop-again
-    same-length
+    (λ c. search needs)
     returns)

@@ -25,13 +25,10 @@ float-from-bits-result c =
     let n = c .before .args .n in
     subst (λ (b : Bool). T (not b)) (sym (nanBits-above binary32 n ∙ le-ltb 2139095040 (n % 2147483648) (c .if1 .taken))) tt
 
-returns : tie.Need-returns
-returns c = search needs
-
 returns-2 : tie.Need-returns-2
 returns-2 c =
     let n = c .before .args .n in
     sym quotient ∙ sym (is-nan (ofBits binary32 n) (sym (nanBits-is binary32 n) ∙ nanBits-above binary32 n ∙ lt-ltb 2139095040 (n % 2147483648) (c .if1 .left)))
 
 pub sample-spec : {M : Type 1} → statement M
-sample-spec = tie.close (tie.spec float-from-bits-result returns returns-2)
+sample-spec = tie.close (tie.spec float-from-bits-result (λ c. search needs) returns-2)

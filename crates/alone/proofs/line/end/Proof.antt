@@ -4,33 +4,6 @@ use borrow.Author.Needs.{needs}
 use Rattle.alone.proofs.line.end.Statement.{statement}
 use Rattle.alone.proofs.line.end.Tie as tie
 
-lane-requires : tie.Need-lane-requires
-lane-requires c κs = search needs
-
-filtered-requires : tie.Need-filtered-requires
-filtered-requires c κs = search needs
-
-filtered-requires-2 : tie.Need-filtered-requires-2
-filtered-requires-2 c κs = search needs
-
-lane-requires-2 : tie.Need-lane-requires-2
-lane-requires-2 c κs = search needs
-
-filtered-requires-3 : tie.Need-filtered-requires-3
-filtered-requires-3 c κs = search needs
-
-filtered-requires-4 : tie.Need-filtered-requires-4
-filtered-requires-4 c κs = search needs
-
-filtered-requires-5 : tie.Need-filtered-requires-5
-filtered-requires-5 c κs = search needs
-
-filtered-requires-6 : tie.Need-filtered-requires-6
-filtered-requires-6 c κs = search needs
-
-lane-requires-3 : tie.Need-lane-requires-3
-lane-requires-3 c κs = search needs
-
 returns : tie.Need-returns
 unfolding ended
 returns c =
@@ -53,13 +26,13 @@ pub end-spec : {M : Type 1} → statement M
 end-spec =
     tie.close
     (tie.spec
-    lane-requires
-    filtered-requires
-    filtered-requires-2
-    lane-requires-2
-    filtered-requires-3
-    filtered-requires-4
-    filtered-requires-5
-    filtered-requires-6
-    lane-requires-3
+    (λ c κs. search needs)
+    (λ c κs. search needs)
+    (λ c κs. search needs)
+    (λ c κs. search needs)
+    (λ c κs. search needs)
+    (λ c κs. search needs)
+    (λ c κs. search needs)
+    (λ c κs. search needs)
+    (λ c κs. search needs)
     returns)

@@ -15,35 +15,8 @@ Inv-loop xs₀ l₀ i₀ i-end xs l i = Behind i-end l₀ xs₀ i l xs
 abbrev μ-loop : tie.MeasureT-loop
 μ-loop xs₀ l₀ i₀ i-end xs l i = i-end - i
 
-sub-i-end : tie.Need-sub-i-end Inv-loop μ-loop
-sub-i-end c = search needs
-
 loop-holds : tie.Need-loop-holds Inv-loop μ-loop
 loop-holds c = (omega arith, omega arith, refl, refl, refl)
-
-add-stagger : tie.Need-add-stagger Inv-loop μ-loop
-add-stagger c = search needs
-
-mul-stagger : tie.Need-mul-stagger Inv-loop μ-loop
-mul-stagger c = search needs
-
-slice-read-stagger : tie.Need-slice-read-stagger Inv-loop μ-loop
-slice-read-stagger c = search needs
-
-stagger-requires : tie.Need-stagger-requires Inv-loop μ-loop
-stagger-requires c κs = search needs
-
-mul-xs : tie.Need-mul-xs Inv-loop μ-loop
-mul-xs c = search needs
-
-slice-write-xs : tie.Need-slice-write-xs Inv-loop μ-loop
-slice-write-xs c = search needs
-
-add-i : tie.Need-add-i Inv-loop μ-loop
-add-i c = search needs
-
-loop-less : tie.Need-loop-less Inv-loop μ-loop
-loop-less c = search needs
 
 loop-again : tie.Need-loop-again Inv-loop μ-loop
 loop-again c =
@@ -52,9 +25,6 @@ loop-again c =
     let l = turn .before .loop in
     let s = turn .before .before .before in
     one-put _ _ (now (s .args .xs)) (l .i) (l .l) (l .xs) (l .inv) _ (turn .loop-test .taken) (called .stagger .ensures)
-
-same-length : tie.Need-same-length Inv-loop μ-loop
-same-length c = search needs
 
 returns : tie.Need-returns Inv-loop μ-loop
 returns c =
@@ -68,16 +38,16 @@ run-behind-spec =
     (tie.spec
     Inv-loop
     μ-loop
-    sub-i-end
+    (λ c. search needs)
     loop-holds
-    add-stagger
-    mul-stagger
-    slice-read-stagger
-    stagger-requires
-    mul-xs
-    slice-write-xs
-    add-i
-    loop-less
+    (λ c. search needs)
+    (λ c. search needs)
+    (λ c. search needs)
+    (λ c κs. search needs)
+    (λ c. search needs)
+    (λ c. search needs)
+    (λ c. search needs)
+    (λ c. search needs)
     loop-again
-    same-length
+    (λ c. search needs)
     returns)

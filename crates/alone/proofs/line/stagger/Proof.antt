@@ -4,12 +4,9 @@ use borrow.Author.Needs.{needs}
 use Rattle.alone.proofs.line.stagger.Statement.{statement}
 use Rattle.alone.proofs.line.stagger.Tie as tie
 
-step-requires : tie.Need-step-requires
-step-requires c κs = search needs
-
 returns : tie.Need-returns
 unfolding behind
 returns c = c .step .ensures
 
 pub stagger-spec : {M : Type 1} → statement M
-stagger-spec = tie.close (tie.spec step-requires returns)
+stagger-spec = tie.close (tie.spec (λ c κs. search needs) returns)

@@ -10,24 +10,12 @@ use Rattle.silence.proofs.Outcomes.{when, when-not}
 use Rattle.closing.proofs.ends.concluded.Statement.{statement}
 use Rattle.closing.proofs.ends.concluded.Tie as tie
 
-shut-requires : tie.Need-shut-requires
-shut-requires c κs = search needs
-
-quiet-requires : tie.Need-quiet-requires
-quiet-requires c κs = search needs
-
 returns : tie.Need-returns
 returns c =
     let shut = c .before in
     let taken = shut .before in
     when-not (taken .before .before .args .frame .ok) _ _ _ (taken .if1 .taken)
     (c .quiet .ensures ∙ ap (λ (t : State). outcome NotFinite (ofState t) TailComplete) (shut .shut .ensures))
-
-verdict-requires : tie.Need-verdict-requires
-verdict-requires c κs = search needs
-
-idle-requires : tie.Need-idle-requires
-idle-requires c κs = search needs
 
 returns-2 : tie.Need-returns-2
 returns-2 c =
@@ -38,4 +26,4 @@ returns-2 c =
 
 pub concluded-spec : {M : Type 1} → statement M
 concluded-spec =
-    tie.close (tie.spec shut-requires quiet-requires returns verdict-requires idle-requires returns-2)
+    tie.close (tie.spec (λ c κs. search needs) (λ c κs. search needs) returns (λ c κs. search needs) (λ c κs. search needs) returns-2)

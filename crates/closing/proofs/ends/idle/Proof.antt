@@ -7,11 +7,8 @@ use Rattle.reverb.specs.Whole.{movedOn}
 use Rattle.closing.proofs.ends.idle.Statement.{statement}
 use Rattle.closing.proofs.ends.idle.Tie as tie
 
-fresh-state-requires : tie.Need-fresh-state-requires
-fresh-state-requires c κs = search needs
-
 returns : tie.Need-returns
 returns c = let a = c .before .args in ap (λ (t : State). toState (movedOn (ofState t) (a .lines) (a .passes) (a .filters) (a .count .0))) (c .fresh-state .ensures)
 
 pub idle-spec : {M : Type 1} → statement M
-idle-spec = tie.close (tie.spec fresh-state-requires returns)
+idle-spec = tie.close (tie.spec (λ c κs. search needs) returns)

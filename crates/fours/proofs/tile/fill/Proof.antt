@@ -18,21 +18,6 @@ abbrev μ-loop : tie.MeasureT-loop
 loop-holds : tie.Need-loop-holds Inv-loop μ-loop
 loop-holds c = (omega arith, refl, λ k g. refl)
 
-add-row-column : tie.Need-add-row-column Inv-loop μ-loop
-add-row-column c = search needs
-
-row-column-requires : tie.Need-row-column-requires Inv-loop μ-loop
-row-column-requires c κs = search needs
-
-set-column-requires : tie.Need-set-column-requires Inv-loop μ-loop
-set-column-requires c κs = search needs
-
-add-j : tie.Need-add-j Inv-loop μ-loop
-add-j c = search needs
-
-loop-less : tie.Need-loop-less Inv-loop μ-loop
-loop-less c = search needs
-
 loop-again : tie.Need-loop-again Inv-loop μ-loop
 loop-again c =
     let called = c .before .before in
@@ -42,9 +27,6 @@ loop-again c =
     let s = turn .before .before .before .before in
     let p = s .pre in
     one-filled _ _ _ _ (now (s .args .tile)) (p .0) (p .1) (p .2) (l .j) (l .tile) _ (l .inv) (turn .loop-test .taken) (rw (found .row-column .ensures) at (called .set-column .ensures))
-
-same-length : tie.Need-same-length Inv-loop μ-loop
-same-length c = search needs
 
 returns : tie.Need-returns Inv-loop μ-loop
 returns c =
@@ -60,11 +42,11 @@ fill-spec =
     Inv-loop
     μ-loop
     loop-holds
-    add-row-column
-    row-column-requires
-    set-column-requires
-    add-j
-    loop-less
+    (λ c. search needs)
+    (λ c κs. search needs)
+    (λ c κs. search needs)
+    (λ c. search needs)
+    (λ c. search needs)
     loop-again
-    same-length
+    (λ c. search needs)
     returns)

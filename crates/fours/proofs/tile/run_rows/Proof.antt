@@ -18,24 +18,6 @@ abbrev μ-loop : tie.MeasureT-loop
 loop-holds : tie.Need-loop-holds Inv-loop μ-loop
 loop-holds c = (none-run _ _ _ (c .before .pre), refl)
 
-sub-tile-of : tie.Need-sub-tile-of Inv-loop μ-loop
-sub-tile-of c = search needs
-
-tile-of-requires : tie.Need-tile-of-requires Inv-loop μ-loop
-tile-of-requires c κs = search needs
-
-slice-aggregate-some-columns : tie.Need-slice-aggregate-some-columns Inv-loop μ-loop
-slice-aggregate-some-columns c = search needs
-
-some-columns-requires : tie.Need-some-columns-requires Inv-loop μ-loop
-some-columns-requires c κs = search needs
-
-add-t : tie.Need-add-t Inv-loop μ-loop
-add-t c = search needs
-
-loop-less : tie.Need-loop-less Inv-loop μ-loop
-loop-less c = search needs
-
 loop-again : tie.Need-loop-again Inv-loop μ-loop
 loop-again c =
     let called = c .before .before .before in
@@ -43,9 +25,6 @@ loop-again c =
     let l = found .before .before .loop in
     let room : l .t + found .tile-of .result ≤ found .before .before .before .before .args .f = omega (arith, found .tile-of .ensures) in
     (some-run _ _ _ (l .t) (l .g) (l .rows) (l .inv .0) _ _ _ room (called .some-columns .ensures), search needs)
-
-same-length : tie.Need-same-length Inv-loop μ-loop
-same-length c = search needs
 
 returns : tie.Need-returns Inv-loop μ-loop
 returns c =
@@ -59,12 +38,12 @@ run-rows-spec =
     Inv-loop
     μ-loop
     loop-holds
-    sub-tile-of
-    tile-of-requires
-    slice-aggregate-some-columns
-    some-columns-requires
-    add-t
-    loop-less
+    (λ c. search needs)
+    (λ c κs. search needs)
+    (λ c. search needs)
+    (λ c κs. search needs)
+    (λ c. search needs)
+    (λ c. search needs)
     loop-again
-    same-length
+    (λ c. search needs)
     returns)

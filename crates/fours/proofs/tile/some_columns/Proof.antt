@@ -3,21 +3,6 @@ use borrow.Author.Needs.{needs}
 use Rattle.fours.proofs.tile.some_columns.Statement.{statement}
 use Rattle.fours.proofs.tile.some_columns.Tie as tie
 
-fill-requires : tie.Need-fill-requires
-fill-requires c κs = search needs
-
-run-requires : tie.Need-run-requires
-run-requires c κs = search needs
-
-store-requires : tie.Need-store-requires
-store-requires c κs = search needs
-
-same-length : tie.Need-same-length
-same-length c = search needs
-
-same-length-2 : tie.Need-same-length-2
-same-length-2 c = search needs
-
 returns : tie.Need-returns
 returns c =
     let put = c .before .before in
@@ -30,4 +15,4 @@ returns c =
 pub some-columns-spec : {M : Type 1} → statement M
 some-columns-spec =
     tie.close
-    (tie.spec fill-requires run-requires store-requires same-length same-length-2 returns)
+    (tie.spec (λ c κs. search needs) (λ c κs. search needs) (λ c κs. search needs) (λ c. search needs) (λ c. search needs) returns)

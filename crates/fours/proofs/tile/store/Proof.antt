@@ -17,21 +17,6 @@ abbrev μ-loop : tie.MeasureT-loop
 loop-holds : tie.Need-loop-holds Inv-loop μ-loop
 loop-holds c = (omega arith, refl, refl, λ k g. over-none _ _)
 
-add-put-column : tie.Need-add-put-column Inv-loop μ-loop
-add-put-column c = search needs
-
-tile-column-requires : tie.Need-tile-column-requires Inv-loop μ-loop
-tile-column-requires c κs = search needs
-
-put-column-requires : tie.Need-put-column-requires Inv-loop μ-loop
-put-column-requires c κs = search needs
-
-add-j : tie.Need-add-j Inv-loop μ-loop
-add-j c = search needs
-
-loop-less : tie.Need-loop-less Inv-loop μ-loop
-loop-less c = search needs
-
 loop-again : tie.Need-loop-again Inv-loop μ-loop
 loop-again c =
     let called = c .before .before in
@@ -40,9 +25,6 @@ loop-again c =
     let l = turn .before .loop in
     let p = turn .before .before .before .before .pre in
     one-stored _ _ _ _ _ (p .0) (p .1) (l .j) (l .rows) _ (l .inv) (turn .loop-test .taken) (rw (found .tile-column .ensures) at (called .put-column .ensures))
-
-same-length : tie.Need-same-length Inv-loop μ-loop
-same-length c = search needs
 
 returns : tie.Need-returns Inv-loop μ-loop
 returns c =
@@ -57,11 +39,11 @@ store-spec =
     Inv-loop
     μ-loop
     loop-holds
-    add-put-column
-    tile-column-requires
-    put-column-requires
-    add-j
-    loop-less
+    (λ c. search needs)
+    (λ c κs. search needs)
+    (λ c κs. search needs)
+    (λ c. search needs)
+    (λ c. search needs)
     loop-again
-    same-length
+    (λ c. search needs)
     returns)

@@ -10,15 +10,6 @@ use Rattle.frame.specs.Steps.{addedFirst}
 use Rattle.frame.proofs.rows.add_first.Statement.{statement}
 use Rattle.frame.proofs.rows.add_first.Tie as tie
 
-sub-add-at : tie.Need-sub-add-at
-sub-add-at c = search needs
-
-add-at-requires : tie.Need-add-at-requires
-add-at-requires c κs = search needs
-
-same-length : tie.Need-same-length
-same-length c = search needs
-
 returns : tie.Need-returns
 unfolding addedFirst
 returns c =
@@ -32,4 +23,4 @@ returns-2 c =
     rw (lt-leb (s .args .f + s .args .f) (length (now (s .args .rows))) (omega arith)) refl
 
 pub add-first-spec : {M : Type 1} → statement M
-add-first-spec = tie.close (tie.spec sub-add-at add-at-requires same-length returns returns-2)
+add-first-spec = tie.close (tie.spec (λ c. search needs) (λ c κs. search needs) (λ c. search needs) returns returns-2)

@@ -4,15 +4,6 @@ use Rattle.hall.specs.Face.{faced}
 use Rattle.hall.proofs.answers.faced.Statement.{statement}
 use Rattle.hall.proofs.answers.faced.Tie as tie
 
-number-requires : tie.Need-number-requires
-number-requires c κs = search needs
-
-index-requires : tie.Need-index-requires
-index-requires c κs = search needs
-
-remains-requires : tie.Need-remains-requires
-remains-requires c κs = search needs
-
 returns : tie.Need-returns
 unfolding faced
 returns c =
@@ -25,4 +16,4 @@ returns c =
     }
 
 pub faced-spec : {M : Type 1} → statement M
-faced-spec = tie.close (tie.spec number-requires index-requires remains-requires returns)
+faced-spec = tie.close (tie.spec (λ c κs. search needs) (λ c κs. search needs) (λ c κs. search needs) returns)

@@ -4,9 +4,6 @@ use Rattle.hall.specs.Face.{facedFour}
 use Rattle.hall.proofs.answers.faced_four.Statement.{statement}
 use Rattle.hall.proofs.answers.faced_four.Tie as tie
 
-number-requires : tie.Need-number-requires
-number-requires c κs = search needs
-
 returns : tie.Need-returns
 unfolding facedFour
 returns c =
@@ -14,4 +11,4 @@ returns c =
     λ i. record { number = c .number .ensures i; cursors = r .cursors; x = r .x }
 
 pub faced-four-spec : {M : Type 1} → statement M
-faced-four-spec = tie.close (tie.spec number-requires returns)
+faced-four-spec = tie.close (tie.spec (λ c κs. search needs) returns)

@@ -4,9 +4,6 @@ use Rattle.hall.specs.Face.{facedRing}
 use Rattle.hall.proofs.answers.faced_ring.Statement.{statement}
 use Rattle.hall.proofs.answers.faced_ring.Tie as tie
 
-number-requires : tie.Need-number-requires
-number-requires c κs = search needs
-
 returns : tie.Need-returns
 unfolding facedRing
 returns c =
@@ -14,4 +11,4 @@ returns c =
     λ i. record { number = c .number .ensures i; cursors = r .cursors }
 
 pub faced-ring-spec : {M : Type 1} → statement M
-faced-ring-spec = tie.close (tie.spec number-requires returns)
+faced-ring-spec = tie.close (tie.spec (λ c κs. search needs) returns)

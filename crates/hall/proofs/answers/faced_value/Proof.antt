@@ -4,9 +4,6 @@ use Rattle.hall.specs.Face.{facedValue}
 use Rattle.hall.proofs.answers.faced_value.Statement.{statement}
 use Rattle.hall.proofs.answers.faced_value.Tie as tie
 
-number-requires : tie.Need-number-requires
-number-requires c κs = search needs
-
 returns : tie.Need-returns
 unfolding facedValue
 returns c =
@@ -14,4 +11,4 @@ returns c =
     λ i. record { number = c .number .ensures i; value = v .value }
 
 pub faced-value-spec : {M : Type 1} → statement M
-faced-value-spec = tie.close (tie.spec number-requires returns)
+faced-value-spec = tie.close (tie.spec (λ c κs. search needs) returns)

@@ -5,19 +5,10 @@ use Rattle.samples.specs.Answers.{numberOf}
 use Rattle.hall.proofs.buffers.hall_buffer_mix.Statement.{statement}
 use Rattle.hall.proofs.buffers.hall_buffer_mix.Tie as tie
 
-mix-requires : tie.Need-mix-requires
-mix-requires c κs = search needs
-
-number-requires : tie.Need-number-requires
-number-requires c κs = search needs
-
-same-length : tie.Need-same-length
-same-length c = search needs
-
 returns : tie.Need-returns
 returns c =
     let called = c .before .before .before .mix .ensures in
     (c .number .ensures ∙ ap numberOf (called .0), called .1)
 
 pub hall-buffer-mix-spec : {M : Type 1} → statement M
-hall-buffer-mix-spec = tie.close (tie.spec mix-requires number-requires same-length returns)
+hall-buffer-mix-spec = tie.close (tie.spec (λ c κs. search needs) (λ c κs. search needs) (λ c. search needs) returns)

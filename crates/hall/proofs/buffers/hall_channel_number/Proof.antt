@@ -5,14 +5,8 @@ use Rattle.samples.specs.Answers.{numberOf}
 use Rattle.hall.proofs.buffers.hall_channel_number.Statement.{statement}
 use Rattle.hall.proofs.buffers.hall_channel_number.Tie as tie
 
-channel-number-requires : tie.Need-channel-number-requires
-channel-number-requires c κs = search needs
-
-number-requires : tie.Need-number-requires
-number-requires c κs = search needs
-
 returns : tie.Need-returns
 returns c = c .number .ensures ∙ ap numberOf (c .before .channel-number .ensures)
 
 pub hall-channel-number-spec : {M : Type 1} → statement M
-hall-channel-number-spec = tie.close (tie.spec channel-number-requires number-requires returns)
+hall-channel-number-spec = tie.close (tie.spec (λ c κs. search needs) (λ c κs. search needs) returns)

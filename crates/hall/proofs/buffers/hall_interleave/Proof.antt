@@ -5,15 +5,6 @@ use Rattle.samples.specs.Answers.{numberOf}
 use Rattle.hall.proofs.buffers.hall_interleave.Statement.{statement}
 use Rattle.hall.proofs.buffers.hall_interleave.Tie as tie
 
-write-interleaved-requires : tie.Need-write-interleaved-requires
-write-interleaved-requires c κs = search needs
-
-number-requires : tie.Need-number-requires
-number-requires c κs = search needs
-
-same-length : tie.Need-same-length
-same-length c = search needs
-
 returns : tie.Need-returns
 returns c =
     let called = c .before .before .before .write-interleaved .ensures in
@@ -21,4 +12,4 @@ returns c =
 
 pub hall-interleave-spec : {M : Type 1} → statement M
 hall-interleave-spec =
-    tie.close (tie.spec write-interleaved-requires number-requires same-length returns)
+    tie.close (tie.spec (λ c κs. search needs) (λ c κs. search needs) (λ c. search needs) returns)

@@ -5,14 +5,8 @@ use Rattle.hall.specs.Face.{facedValue}
 use Rattle.hall.proofs.delays.hall_delay_min.Statement.{statement}
 use Rattle.hall.proofs.delays.hall_delay_min.Tie as tie
 
-delay-min-requires : tie.Need-delay-min-requires
-delay-min-requires c κs = search needs
-
-faced-value-requires : tie.Need-faced-value-requires
-faced-value-requires c κs = search needs
-
 returns : tie.Need-returns
 returns c = c .faced-value .ensures ∙ ap facedValue (c .before .delay-min .ensures)
 
 pub hall-delay-min-spec : {M : Type 1} → statement M
-hall-delay-min-spec = tie.close (tie.spec delay-min-requires faced-value-requires returns)
+hall-delay-min-spec = tie.close (tie.spec (λ c κs. search needs) (λ c κs. search needs) returns)

@@ -5,14 +5,8 @@ use Rattle.hall.specs.Face.{facedValue}
 use Rattle.hall.proofs.delays.hall_prime_power.Statement.{statement}
 use Rattle.hall.proofs.delays.hall_prime_power.Tie as tie
 
-prime-power-requires : tie.Need-prime-power-requires
-prime-power-requires c κs = search needs
-
-faced-value-requires : tie.Need-faced-value-requires
-faced-value-requires c κs = search needs
-
 returns : tie.Need-returns
 returns c = c .faced-value .ensures ∙ ap facedValue (c .before .prime-power .ensures)
 
 pub hall-prime-power-spec : {M : Type 1} → statement M
-hall-prime-power-spec = tie.close (tie.spec prime-power-requires faced-value-requires returns)
+hall-prime-power-spec = tie.close (tie.spec (λ c κs. search needs) (λ c κs. search needs) returns)

@@ -5,19 +5,10 @@ use Rattle.hall.specs.Face.{faced}
 use Rattle.hall.proofs.open_frames.hall_job_mix.Statement.{statement}
 use Rattle.hall.proofs.open_frames.hall_job_mix.Tie as tie
 
-job-mix-requires : tie.Need-job-mix-requires
-job-mix-requires c κs = search needs
-
-faced-requires : tie.Need-faced-requires
-faced-requires c κs = search needs
-
-same-length : tie.Need-same-length
-same-length c = search needs
-
 returns : tie.Need-returns
 returns c =
     let called = c .before .before .before .job-mix .ensures in
     (c .faced .ensures ∙ ap faced (called .0), called .1)
 
 pub hall-job-mix-spec : {M : Type 1} → statement M
-hall-job-mix-spec = tie.close (tie.spec job-mix-requires faced-requires same-length returns)
+hall-job-mix-spec = tie.close (tie.spec (λ c κs. search needs) (λ c κs. search needs) (λ c. search needs) returns)

@@ -5,19 +5,10 @@ use Rattle.hall.specs.Face.{faced}
 use Rattle.hall.proofs.open_frames.hall_open_tail.Statement.{statement}
 use Rattle.hall.proofs.open_frames.hall_open_tail.Tie as tie
 
-open-tail-requires : tie.Need-open-tail-requires
-open-tail-requires c κs = search needs
-
-faced-requires : tie.Need-faced-requires
-faced-requires c κs = search needs
-
-same-length : tie.Need-same-length
-same-length c = search needs
-
 returns : tie.Need-returns
 returns c =
     let called = c .before .before .before .open-tail .ensures in
     (c .faced .ensures ∙ ap faced (called .0), called .1)
 
 pub hall-open-tail-spec : {M : Type 1} → statement M
-hall-open-tail-spec = tie.close (tie.spec open-tail-requires faced-requires same-length returns)
+hall-open-tail-spec = tie.close (tie.spec (λ c κs. search needs) (λ c κs. search needs) (λ c. search needs) returns)

@@ -5,14 +5,8 @@ use Rattle.hall.specs.Face.{facedFour}
 use Rattle.hall.proofs.rings.hall_ring_get4.Statement.{statement}
 use Rattle.hall.proofs.rings.hall_ring_get4.Tie as tie
 
-get4-requires : tie.Need-get4-requires
-get4-requires c κs = search needs
-
-faced-four-requires : tie.Need-faced-four-requires
-faced-four-requires c κs = search needs
-
 returns : tie.Need-returns
 returns c = c .faced-four .ensures ∙ ap facedFour (c .before .get4 .ensures)
 
 pub hall-ring-get4-spec : {M : Type 1} → statement M
-hall-ring-get4-spec = tie.close (tie.spec get4-requires faced-four-requires returns)
+hall-ring-get4-spec = tie.close (tie.spec (λ c κs. search needs) (λ c κs. search needs) returns)

@@ -5,19 +5,10 @@ use Rattle.hall.specs.Face.{facedRing}
 use Rattle.hall.proofs.rings.hall_ring_put.Statement.{statement}
 use Rattle.hall.proofs.rings.hall_ring_put.Tie as tie
 
-put-requires : tie.Need-put-requires
-put-requires c κs = search needs
-
-faced-ring-requires : tie.Need-faced-ring-requires
-faced-ring-requires c κs = search needs
-
-same-length : tie.Need-same-length
-same-length c = search needs
-
 returns : tie.Need-returns
 returns c =
     let called = c .before .before .before .put .ensures in
     (c .faced-ring .ensures ∙ ap facedRing (called .0), called .1)
 
 pub hall-ring-put-spec : {M : Type 1} → statement M
-hall-ring-put-spec = tie.close (tie.spec put-requires faced-ring-requires same-length returns)
+hall-ring-put-spec = tie.close (tie.spec (λ c κs. search needs) (λ c κs. search needs) (λ c. search needs) returns)

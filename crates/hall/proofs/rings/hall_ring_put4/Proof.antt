@@ -5,19 +5,10 @@ use Rattle.hall.specs.Face.{facedRing}
 use Rattle.hall.proofs.rings.hall_ring_put4.Statement.{statement}
 use Rattle.hall.proofs.rings.hall_ring_put4.Tie as tie
 
-put4-requires : tie.Need-put4-requires
-put4-requires c κs = search needs
-
-faced-ring-requires : tie.Need-faced-ring-requires
-faced-ring-requires c κs = search needs
-
-same-length : tie.Need-same-length
-same-length c = search needs
-
 returns : tie.Need-returns
 returns c =
     let called = c .before .before .before .put4 .ensures in
     (c .faced-ring .ensures ∙ ap facedRing (called .0), called .1)
 
 pub hall-ring-put4-spec : {M : Type 1} → statement M
-hall-ring-put4-spec = tie.close (tie.spec put4-requires faced-ring-requires same-length returns)
+hall-ring-put4-spec = tie.close (tie.spec (λ c κs. search needs) (λ c κs. search needs) (λ c. search needs) returns)

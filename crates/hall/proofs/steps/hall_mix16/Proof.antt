@@ -7,15 +7,6 @@ use Rattle.hadamard.specs.Mix.{mixed, quarter}
 use Rattle.hall.proofs.steps.hall_mix16.Statement.{statement}
 use Rattle.hall.proofs.steps.hall_mix16.Tie as tie
 
-mix-sample-requires : tie.Need-mix-sample-requires
-mix-sample-requires c κs = search needs
-
-number-requires : tie.Need-number-requires
-number-requires c κs = search needs
-
-same-length : tie.Need-same-length
-same-length c = search needs
-
 returns : tie.Need-returns
 returns c =
     let a = c .before .before .before .before .before .before .before .args in
@@ -25,4 +16,4 @@ returns c =
     )
 
 pub hall-mix16-spec : {M : Type 1} → statement M
-hall-mix16-spec = tie.close (tie.spec mix-sample-requires number-requires same-length returns)
+hall-mix16-spec = tie.close (tie.spec (λ c κs. search needs) (λ c κs. search needs) (λ c. search needs) returns)

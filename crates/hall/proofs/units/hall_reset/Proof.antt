@@ -5,19 +5,10 @@ use Rattle.hall.specs.Face.{faced}
 use Rattle.hall.proofs.units.hall_reset.Statement.{statement}
 use Rattle.hall.proofs.units.hall_reset.Tie as tie
 
-reset-requires : tie.Need-reset-requires
-reset-requires c κs = search needs
-
-faced-requires : tie.Need-faced-requires
-faced-requires c κs = search needs
-
-same-length : tie.Need-same-length
-same-length c = search needs
-
 returns : tie.Need-returns
 returns c =
     let called = c .before .before .before .reset .ensures in
     (c .faced .ensures ∙ ap faced (called .0), called .1)
 
 pub hall-reset-spec : {M : Type 1} → statement M
-hall-reset-spec = tie.close (tie.spec reset-requires faced-requires same-length returns)
+hall-reset-spec = tie.close (tie.spec (λ c κs. search needs) (λ c κs. search needs) (λ c. search needs) returns)

@@ -4,18 +4,9 @@ use borrow.Author.Needs.{needs}
 use Rattle.lanes.proofs.bank.by_band.Statement.{statement}
 use Rattle.lanes.proofs.bank.by_band.Tie as tie
 
-pack-requires : tie.Need-pack-requires
-pack-requires c κs = search needs
-
-pack-requires-2 : tie.Need-pack-requires-2
-pack-requires-2 c κs = search needs
-
-pack-requires-3 : tie.Need-pack-requires-3
-pack-requires-3 c κs = search needs
-
 returns : tie.Need-returns
 unfolding bankOf
 returns c = rw (c .pack3 .ensures, c .before .pack2 .ensures, c .before .before .pack .ensures)
 
 pub by-band-spec : {M : Type 1} → statement M
-by-band-spec = tie.close (tie.spec pack-requires pack-requires-2 pack-requires-3 returns)
+by-band-spec = tie.close (tie.spec (λ c κs. search needs) (λ c κs. search needs) (λ c κs. search needs) returns)

@@ -4,18 +4,9 @@ use borrow.Author.Needs.{needs}
 use Rattle.lanes.proofs.bank.step_bank.Statement.{statement}
 use Rattle.lanes.proofs.bank.step_bank.Tie as tie
 
-step-requires : tie.Need-step-requires
-step-requires c κs = search needs
-
-step-requires-2 : tie.Need-step-requires-2
-step-requires-2 c κs = search needs
-
-step-requires-3 : tie.Need-step-requires-3
-step-requires-3 c κs = search needs
-
 returns : tie.Need-returns
 unfolding stepBank
 returns c = rw (c .step3 .ensures, c .before .step2 .ensures, c .before .before .step .ensures)
 
 pub step-bank-spec : {M : Type 1} → statement M
-step-bank-spec = tie.close (tie.spec step-requires step-requires-2 step-requires-3 returns)
+step-bank-spec = tie.close (tie.spec (λ c κs. search needs) (λ c κs. search needs) (λ c κs. search needs) returns)

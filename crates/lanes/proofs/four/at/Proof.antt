@@ -13,18 +13,9 @@ last (suc zero) a p q r = absurd (q refl)
 last (suc (suc zero)) a p q r = absurd (r refl)
 last (suc (suc (suc k))) a p q r = refl
 
-returns : tie.Need-returns
-returns c = search needs
-
-returns-2 : tie.Need-returns-2
-returns-2 c = search needs
-
-returns-3 : tie.Need-returns-3
-returns-3 c = search needs
-
 returns-4 : tie.Need-returns-4
 returns-4 c =
     last (c .before .before .before .args .k) (c .before .before .before .args .a) (c .before .before .if1 .left) (c .before .if2 .left) (c .if3 .left)
 
 pub at-spec : {M : Type 1} → statement M
-at-spec = tie.close (tie.spec returns returns-2 returns-3 returns-4)
+at-spec = tie.close (tie.spec (λ c. search needs) (λ c. search needs) (λ c. search needs) returns-4)

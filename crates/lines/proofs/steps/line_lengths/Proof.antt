@@ -21,26 +21,11 @@ abbrev μ-loop : tie.MeasureT-loop
 loop-holds : tie.Need-loop-holds Inv-loop μ-loop
 loop-holds c = (search needs, search needs, refl)
 
-delay-requires : tie.Need-delay-requires Inv-loop μ-loop
-delay-requires c κs = search needs
-
 add-ls : tie.Need-add-ls Inv-loop μ-loop
 add-ls c =
     let l = c .before .before .loop in
     let s = c .before .before .before in
     omega (arith, line-small (s .args .frame) (l .i) (search needs), c .delay .ensures, s .pre)
-
-mul-ls : tie.Need-mul-ls Inv-loop μ-loop
-mul-ls c = search needs
-
-array-write-ls : tie.Need-array-write-ls Inv-loop μ-loop
-array-write-ls c = search needs
-
-add-i : tie.Need-add-i Inv-loop μ-loop
-add-i c = search needs
-
-loop-less : tie.Need-loop-less Inv-loop μ-loop
-loop-less c = search needs
 
 loop-again : tie.Need-loop-again Inv-loop μ-loop
 loop-again c =
@@ -65,11 +50,11 @@ line-lengths-spec =
     Inv-loop
     μ-loop
     loop-holds
-    delay-requires
+    (λ c κs. search needs)
     add-ls
-    mul-ls
-    array-write-ls
-    add-i
-    loop-less
+    (λ c. search needs)
+    (λ c. search needs)
+    (λ c. search needs)
+    (λ c. search needs)
     loop-again
     returns)

@@ -19,36 +19,12 @@ abbrev μ-loop : tie.MeasureT-loop
 loop-holds : tie.Need-loop-holds Inv-loop μ-loop
 loop-holds c = let z = sub-zero (c .args .n) in (search needs, refl, rw z (c .pre .2), refl, rw z refl)
 
-mul-c : tie.Need-mul-c Inv-loop μ-loop
-mul-c c = search needs
-
-array-copy-out-c : tie.Need-array-copy-out-c Inv-loop μ-loop
-array-copy-out-c c = search needs
-
-mul-moved : tie.Need-mul-moved Inv-loop μ-loop
-mul-moved c = search needs
-
-array-read-moved : tie.Need-array-read-moved Inv-loop μ-loop
-array-read-moved c = search needs
-
 moved-requires : tie.Need-moved-requires Inv-loop μ-loop
 moved-requires c κs =
     let l = c .before .before .loop in
     let s = c .before .before .before in
     let r = ring-here (s .args .n) (s .args .f) (s .args .t3) (s .args .t4) _ (l .i) (l .ds) (l .inv) (c .before .loop-test .taken) in
     (s .pre .1, r .0, r .1, r .2)
-
-mul-ds : tie.Need-mul-ds Inv-loop μ-loop
-mul-ds c = search needs
-
-array-set-from-ds : tie.Need-array-set-from-ds Inv-loop μ-loop
-array-set-from-ds c = search needs
-
-add-i : tie.Need-add-i Inv-loop μ-loop
-add-i c = search needs
-
-loop-less : tie.Need-loop-less Inv-loop μ-loop
-loop-less c = search needs
 
 loop-again : tie.Need-loop-again Inv-loop μ-loop
 loop-again c =
@@ -71,14 +47,14 @@ move-lines-spec =
     Inv-loop
     μ-loop
     loop-holds
-    mul-c
-    array-copy-out-c
-    mul-moved
-    array-read-moved
+    (λ c. search needs)
+    (λ c. search needs)
+    (λ c. search needs)
+    (λ c. search needs)
     moved-requires
-    mul-ds
-    array-set-from-ds
-    add-i
-    loop-less
+    (λ c. search needs)
+    (λ c. search needs)
+    (λ c. search needs)
+    (λ c. search needs)
     loop-again
     returns)

@@ -37,18 +37,6 @@ loop-holds c =
     let z = sub-zero (s .args .n) in
     (all-left _ _ 0 _ (rw zero-add (sym (s .pre .rows-are))), refl, rw z (s .pre .rings), rw z refl)
 
-mul-c : tie.Need-mul-c Inv-loop μ-loop
-mul-c c = search needs
-
-array-copy-out-c : tie.Need-array-copy-out-c Inv-loop μ-loop
-array-copy-out-c c = search needs
-
-mul-e : tie.Need-mul-e Inv-loop μ-loop
-mul-e c = search needs
-
-array-read-e : tie.Need-array-read-e Inv-loop μ-loop
-array-read-e c = search needs
-
 add-e : tie.Need-add-e Inv-loop μ-loop
 add-e c = omega (arith, fits (c .before))
 
@@ -58,35 +46,11 @@ add-t c = omega (arith, fits (c .before))
 mul-put : tie.Need-mul-put Inv-loop μ-loop
 mul-put c = omega (arith, fits (c .before))
 
-sub-put : tie.Need-sub-put Inv-loop μ-loop
-sub-put c = search needs
-
-part-put-start : tie.Need-part-put-start Inv-loop μ-loop
-part-put-start c = search needs
-
 part-put-end : tie.Need-part-put-end Inv-loop μ-loop
 part-put-end c = omega (arith, fits (c .before))
 
-mul-put-2 : tie.Need-mul-put-2 Inv-loop μ-loop
-mul-put-2 c = search needs
-
-sub-put-2 : tie.Need-sub-put-2 Inv-loop μ-loop
-sub-put-2 c = search needs
-
-part-put-start-2 : tie.Need-part-put-start-2 Inv-loop μ-loop
-part-put-start-2 c = search needs
-
 part-put-end-2 : tie.Need-part-put-end-2 Inv-loop μ-loop
 part-put-end-2 c = omega (arith, fits (c .before .before))
-
-put-requires : tie.Need-put-requires Inv-loop μ-loop
-put-requires c κs = search needs
-
-add-i : tie.Need-add-i Inv-loop μ-loop
-add-i c = search needs
-
-loop-less : tie.Need-loop-less Inv-loop μ-loop
-loop-less c = search needs
 
 loop-again : tie.Need-loop-again Inv-loop μ-loop
 loop-again c =
@@ -96,9 +60,6 @@ loop-again c =
     let s = turn .before .before .before .before in
     put-turn (s .args .n) (s .args .f) (s .args .t3) (s .args .t4) (s .pre .some) (l .store) (now (s .args .rows)) _ _ (l .i) (l .a) (l .b) _
     (turn .loop-test .taken) (l .inv) (called .put .ensures .1)
-
-same-length : tie.Need-same-length Inv-loop μ-loop
-same-length c = search needs
 
 returns : tie.Need-returns Inv-loop μ-loop
 returns c =
@@ -114,23 +75,23 @@ put-lines-spec =
     Inv-loop
     μ-loop
     loop-holds
-    mul-c
-    array-copy-out-c
-    mul-e
-    array-read-e
+    (λ c. search needs)
+    (λ c. search needs)
+    (λ c. search needs)
+    (λ c. search needs)
     add-e
     add-t
     mul-put
-    sub-put
-    part-put-start
+    (λ c. search needs)
+    (λ c. search needs)
     part-put-end
-    mul-put-2
-    sub-put-2
-    part-put-start-2
+    (λ c. search needs)
+    (λ c. search needs)
+    (λ c. search needs)
     part-put-end-2
-    put-requires
-    add-i
-    loop-less
+    (λ c κs. search needs)
+    (λ c. search needs)
+    (λ c. search needs)
     loop-again
-    same-length
+    (λ c. search needs)
     returns)

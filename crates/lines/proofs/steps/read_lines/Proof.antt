@@ -35,18 +35,6 @@ loop-holds c =
     let z = sub-zero (s .args .n) in
     (all-left _ _ 0 _ (rw zero-add (sym (s .pre .rows-are))), refl, rw z (s .pre .rings), rw z refl)
 
-mul-c : tie.Need-mul-c Inv-loop μ-loop
-mul-c c = search needs
-
-array-copy-out-c : tie.Need-array-copy-out-c Inv-loop μ-loop
-array-copy-out-c c = search needs
-
-mul-e : tie.Need-mul-e Inv-loop μ-loop
-mul-e c = search needs
-
-array-read-e : tie.Need-array-read-e Inv-loop μ-loop
-array-read-e c = search needs
-
 add-e : tie.Need-add-e Inv-loop μ-loop
 add-e c = omega (arith, fits (c .before))
 
@@ -56,35 +44,11 @@ add-t c = omega (arith, fits (c .before))
 mul-get : tie.Need-mul-get Inv-loop μ-loop
 mul-get c = omega (arith, fits (c .before))
 
-sub-get : tie.Need-sub-get Inv-loop μ-loop
-sub-get c = search needs
-
-part-get-start : tie.Need-part-get-start Inv-loop μ-loop
-part-get-start c = search needs
-
 part-get-end : tie.Need-part-get-end Inv-loop μ-loop
 part-get-end c = omega (arith, fits (c .before))
 
-mul-get-2 : tie.Need-mul-get-2 Inv-loop μ-loop
-mul-get-2 c = search needs
-
-sub-get-2 : tie.Need-sub-get-2 Inv-loop μ-loop
-sub-get-2 c = search needs
-
-part-get-start-2 : tie.Need-part-get-start-2 Inv-loop μ-loop
-part-get-start-2 c = search needs
-
 part-get-end-2 : tie.Need-part-get-end-2 Inv-loop μ-loop
 part-get-end-2 c = omega (arith, fits (c .before .before))
-
-get-requires : tie.Need-get-requires Inv-loop μ-loop
-get-requires c κs = search needs
-
-add-i : tie.Need-add-i Inv-loop μ-loop
-add-i c = search needs
-
-loop-less : tie.Need-loop-less Inv-loop μ-loop
-loop-less c = search needs
 
 loop-again : tie.Need-loop-again Inv-loop μ-loop
 loop-again c =
@@ -94,9 +58,6 @@ loop-again c =
     let s = turn .before .before .before .before in
     read-turn (s .args .n) (s .args .f) (s .args .t3) (s .args .t4) (s .pre .some) (now (s .args .store)) (l .rows) _ _ (l .i) (l .a) (l .b) _
     (turn .loop-test .taken) (l .inv) (called .get .ensures .1)
-
-same-length : tie.Need-same-length Inv-loop μ-loop
-same-length c = search needs
 
 returns : tie.Need-returns Inv-loop μ-loop
 returns c =
@@ -112,23 +73,23 @@ read-lines-spec =
     Inv-loop
     μ-loop
     loop-holds
-    mul-c
-    array-copy-out-c
-    mul-e
-    array-read-e
+    (λ c. search needs)
+    (λ c. search needs)
+    (λ c. search needs)
+    (λ c. search needs)
     add-e
     add-t
     mul-get
-    sub-get
-    part-get-start
+    (λ c. search needs)
+    (λ c. search needs)
     part-get-end
-    mul-get-2
-    sub-get-2
-    part-get-start-2
+    (λ c. search needs)
+    (λ c. search needs)
+    (λ c. search needs)
     part-get-end-2
-    get-requires
-    add-i
-    loop-less
+    (λ c κs. search needs)
+    (λ c. search needs)
+    (λ c. search needs)
     loop-again
-    same-length
+    (λ c. search needs)
     returns)

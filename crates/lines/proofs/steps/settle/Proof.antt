@@ -6,15 +6,6 @@ use Rattle.lines.proofs.LineTurns.{settle-join}
 use Rattle.lines.proofs.steps.settle.Statement.{statement}
 use Rattle.lines.proofs.steps.settle.Tie as tie
 
-put-lines-requires : tie.Need-put-lines-requires
-put-lines-requires c κs = search needs
-
-put-rings-requires : tie.Need-put-rings-requires
-put-rings-requires c κs = search needs
-
-same-length : tie.Need-same-length
-same-length c = search needs
-
 returns : tie.Need-returns
 returns c =
     let called = c .before .before in
@@ -25,4 +16,4 @@ returns c =
     (called .before .before .before .before .put-lines .ensures)
 
 pub settle-spec : {M : Type 1} → statement M
-settle-spec = tie.close (tie.spec put-lines-requires put-rings-requires same-length returns)
+settle-spec = tie.close (tie.spec (λ c κs. search needs) (λ c κs. search needs) (λ c. search needs) returns)

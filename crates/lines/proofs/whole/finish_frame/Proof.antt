@@ -5,24 +5,6 @@ use Rattle.lines.proofs.FrameParts.{cond-of}
 use Rattle.lines.proofs.whole.finish_frame.Statement.{statement}
 use Rattle.lines.proofs.whole.finish_frame.Tie as tie
 
-frame-finite-requires : tie.Need-frame-finite-requires
-frame-finite-requires c κs = search needs
-
-settle-if-requires : tie.Need-settle-if-requires
-settle-if-requires c κs = search needs
-
-clear-requires : tie.Need-clear-requires
-clear-requires c κs = search needs
-
-same-length : tie.Need-same-length
-same-length c = search needs
-
-same-length-2 : tie.Need-same-length-2
-same-length-2 c = search needs
-
-same-length-3 : tie.Need-same-length-3
-same-length-3 c = search needs
-
 returns : tie.Need-returns
 returns c =
     let cleared = c .before .before in
@@ -34,10 +16,10 @@ pub finish-frame-spec : {M : Type 1} → statement M
 finish-frame-spec =
     tie.close
     (tie.spec
-    frame-finite-requires
-    settle-if-requires
-    clear-requires
-    same-length
-    same-length-2
-    same-length-3
+    (λ c κs. search needs)
+    (λ c κs. search needs)
+    (λ c κs. search needs)
+    (λ c. search needs)
+    (λ c. search needs)
+    (λ c. search needs)
     returns)

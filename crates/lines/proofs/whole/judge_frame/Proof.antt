@@ -12,22 +12,10 @@ use Rattle.lines.proofs.whole.judge_frame.Lts as lts
 use Rattle.lines.proofs.whole.frame_rows.Reads as frame-rows-reads
 use Rattle.lines.proofs.whole.finish_frame.Reads as finish-frame-reads
 
-frame-rows-requires : tie.Need-frame-rows-requires
-frame-rows-requires c κs = search needs
-
 finish-frame-requires : tie.Need-finish-frame-requires
 finish-frame-requires c κs =
     let s = c .before .before .before .before .before .before .before .before .before .before .before in
     settle-fits _ _ _ _ (s .args .ps) _ _ _ _ (s .pre .0) (search needs) (s .pre .1 .0)
-
-same-length : tie.Need-same-length
-same-length c = search needs
-
-same-length-2 : tie.Need-same-length-2
-same-length-2 c = search needs
-
-same-length-3 : tie.Need-same-length-3
-same-length-3 c = search needs
 
 -- all 51 filters are handed in
 filters-long :
@@ -64,9 +52,9 @@ pub judge-frame-spec : {M : Type 1} → statement M
 judge-frame-spec =
     tie.close
     (tie.spec
-    frame-rows-requires
+    (λ c κs. search needs)
     finish-frame-requires
-    same-length
-    same-length-2
-    same-length-3
+    (λ c. search needs)
+    (λ c. search needs)
+    (λ c. search needs)
     returns)

@@ -5,33 +5,6 @@ use Rattle.lines.proofs.RowJoins.{lines-join}
 use Rattle.lines.proofs.whole.play_lines.Statement.{statement}
 use Rattle.lines.proofs.whole.play_lines.Tie as tie
 
-mul-at : tie.Need-mul-at
-mul-at c = search needs
-
-add-at : tie.Need-add-at
-add-at c = search needs
-
-mul-read-lines : tie.Need-mul-read-lines
-mul-read-lines c = search needs
-
-sub-read-lines : tie.Need-sub-read-lines
-sub-read-lines c = search needs
-
-part-read-lines-start : tie.Need-part-read-lines-start
-part-read-lines-start c = search needs
-
-part-read-lines-end : tie.Need-part-read-lines-end
-part-read-lines-end c = search needs
-
-read-lines-requires : tie.Need-read-lines-requires
-read-lines-requires c κs = search needs
-
-line-rows-requires : tie.Need-line-rows-requires
-line-rows-requires c κs = search needs
-
-same-length : tie.Need-same-length
-same-length c = search needs
-
 returns : tie.Need-returns
 returns c =
     let lined = c .before .before in
@@ -44,13 +17,13 @@ pub play-lines-spec : {M : Type 1} → statement M
 play-lines-spec =
     tie.close
     (tie.spec
-    mul-at
-    add-at
-    mul-read-lines
-    sub-read-lines
-    part-read-lines-start
-    part-read-lines-end
-    read-lines-requires
-    line-rows-requires
-    same-length
+    (λ c. search needs)
+    (λ c. search needs)
+    (λ c. search needs)
+    (λ c. search needs)
+    (λ c. search needs)
+    (λ c. search needs)
+    (λ c κs. search needs)
+    (λ c κs. search needs)
+    (λ c. search needs)
     returns)

@@ -11,45 +11,6 @@ use Rattle.lines.proofs.Parts.{part-is, part-long, end-is}
 use Rattle.lines.proofs.whole.settle_frame.Statement.{statement}
 use Rattle.lines.proofs.whole.settle_frame.Tie as tie
 
-mul-a : tie.Need-mul-a
-mul-a c = search needs
-
-add-a : tie.Need-add-a
-add-a c = search needs
-
-mul-p : tie.Need-mul-p
-mul-p c = search needs
-
-add-p : tie.Need-add-p
-add-p c = search needs
-
-add-e : tie.Need-add-e
-add-e c = search needs
-
-mul-settle : tie.Need-mul-settle
-mul-settle c = search needs
-
-sub-settle : tie.Need-sub-settle
-sub-settle c = search needs
-
-part-settle-start : tie.Need-part-settle-start
-part-settle-start c = search needs
-
-part-settle-end : tie.Need-part-settle-end
-part-settle-end c = search needs
-
-mul-settle-2 : tie.Need-mul-settle-2
-mul-settle-2 c = search needs
-
-sub-settle-2 : tie.Need-sub-settle-2
-sub-settle-2 c = search needs
-
-part-settle-start-2 : tie.Need-part-settle-start-2
-part-settle-start-2 c = search needs
-
-part-settle-end-2 : tie.Need-part-settle-end-2
-part-settle-end-2 c = search needs
-
 settle-requires : tie.Need-settle-requires
 settle-requires c κs =
     let s = c .before .before .before .before .before .before in
@@ -68,27 +29,6 @@ settle-requires c κs =
       },
       omega (arith, s .pre .rings, s .pre .rows, ap length (end-is work e), length-drop e work),
     )
-
-mul-copy : tie.Need-mul-copy
-mul-copy c = search needs
-
-sub-copy : tie.Need-sub-copy
-sub-copy c = search needs
-
-part-copy-start : tie.Need-part-copy-start
-part-copy-start c = search needs
-
-part-copy-end : tie.Need-part-copy-end
-part-copy-end c = search needs
-
-copy-requires : tie.Need-copy-requires
-copy-requires c κs = search needs
-
-same-length : tie.Need-same-length
-same-length c = search needs
-
-same-length-2 : tie.Need-same-length-2
-same-length-2 c = search needs
 
 returns : tie.Need-returns
 returns c =
@@ -110,25 +50,25 @@ pub settle-frame-spec : {M : Type 1} → statement M
 settle-frame-spec =
     tie.close
     (tie.spec
-    mul-a
-    add-a
-    mul-p
-    add-p
-    add-e
-    mul-settle
-    sub-settle
-    part-settle-start
-    part-settle-end
-    mul-settle-2
-    sub-settle-2
-    part-settle-start-2
-    part-settle-end-2
+    (λ c. search needs)
+    (λ c. search needs)
+    (λ c. search needs)
+    (λ c. search needs)
+    (λ c. search needs)
+    (λ c. search needs)
+    (λ c. search needs)
+    (λ c. search needs)
+    (λ c. search needs)
+    (λ c. search needs)
+    (λ c. search needs)
+    (λ c. search needs)
+    (λ c. search needs)
     settle-requires
-    mul-copy
-    sub-copy
-    part-copy-start
-    part-copy-end
-    copy-requires
-    same-length
-    same-length-2
+    (λ c. search needs)
+    (λ c. search needs)
+    (λ c. search needs)
+    (λ c. search needs)
+    (λ c κs. search needs)
+    (λ c. search needs)
+    (λ c. search needs)
     returns)

@@ -10,15 +10,6 @@ returns c =
     let e = not-true (c .before .before .before .before .args .ok) (c .if1 .taken) in
     (rw e refl, rw e refl)
 
-settle-frame-requires : tie.Need-settle-frame-requires
-settle-frame-requires c κs = search needs
-
-same-length : tie.Need-same-length
-same-length c = search needs
-
-same-length-2 : tie.Need-same-length-2
-same-length-2 c = search needs
-
 returns-2 : tie.Need-returns-2
 returns-2 c =
     let called = c .before .before .before .before in
@@ -28,4 +19,4 @@ returns-2 c =
 
 pub settle-if-spec : {M : Type 1} → statement M
 settle-if-spec =
-    tie.close (tie.spec returns settle-frame-requires same-length same-length-2 returns-2)
+    tie.close (tie.spec returns (λ c κs. search needs) (λ c. search needs) (λ c. search needs) returns-2)

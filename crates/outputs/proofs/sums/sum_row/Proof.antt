@@ -5,33 +5,6 @@ use Rattle.outputs.proofs.OutputJoins.{mean-join}
 use Rattle.outputs.proofs.sums.sum_row.Statement.{statement}
 use Rattle.outputs.proofs.sums.sum_row.Tie as tie
 
-mul-m : tie.Need-mul-m
-mul-m c = search needs
-
-add-at : tie.Need-add-at
-add-at c = search needs
-
-sum-lines-requires : tie.Need-sum-lines-requires
-sum-lines-requires c κs = search needs
-
-mul-divide : tie.Need-mul-divide
-mul-divide c = search needs
-
-sub-divide : tie.Need-sub-divide
-sub-divide c = search needs
-
-part-divide-start : tie.Need-part-divide-start
-part-divide-start c = search needs
-
-part-divide-end : tie.Need-part-divide-end
-part-divide-end c = search needs
-
-divide-requires : tie.Need-divide-requires
-divide-requires c κs = search needs
-
-same-length : tie.Need-same-length
-same-length c = search needs
-
 returns : tie.Need-returns
 returns c =
     let divided = c .before .before in
@@ -44,13 +17,13 @@ pub sum-row-spec : {M : Type 1} → statement M
 sum-row-spec =
     tie.close
     (tie.spec
-    mul-m
-    add-at
-    sum-lines-requires
-    mul-divide
-    sub-divide
-    part-divide-start
-    part-divide-end
-    divide-requires
-    same-length
+    (λ c. search needs)
+    (λ c. search needs)
+    (λ c κs. search needs)
+    (λ c. search needs)
+    (λ c. search needs)
+    (λ c. search needs)
+    (λ c. search needs)
+    (λ c κs. search needs)
+    (λ c. search needs)
     returns)

@@ -54,9 +54,6 @@ sub-result-2 c =
     let r = toZ-ofZ w32 (negsuc 0 -ℤ z) (sfits-of (p .0)) in
     rw (q, r) (omega (arith, p .2))
 
-returns : tie.Need-returns
-returns c = search needs
-
 cast-result-2 : tie.Need-cast-result-2
 cast-result-2 c =
     let z = c .before .before .args .count .0 in
@@ -65,8 +62,5 @@ cast-result-2 c =
     let p = above z h (rw q at (c .if1 .left)) in
     rw q (p .0, record { fits = omega (arith, p .1) })
 
-returns-2 : tie.Need-returns-2
-returns-2 c = search needs
-
 pub pattern-spec : {M : Type 1} → statement M
-pattern-spec = tie.close (tie.spec sub-result cast-result sub-result-2 returns cast-result-2 returns-2)
+pattern-spec = tie.close (tie.spec sub-result cast-result sub-result-2 (λ c. search needs) cast-result-2 (λ c. search needs))

@@ -5,17 +5,8 @@ use Rattle.silence.proofs.Outcomes.{when, when-not}
 use Rattle.reverb.proofs.units.conclude.Statement.{statement}
 use Rattle.reverb.proofs.units.conclude.Tie as tie
 
-quiet-requires : tie.Need-quiet-requires
-quiet-requires c κs = search needs
-
 returns : tie.Need-returns
 returns c = when-not (c .before .before .before .args .frame .ok) _ _ _ (c .before .if1 .taken) (c .quiet .ensures)
-
-verdict-requires : tie.Need-verdict-requires
-verdict-requires c κs = search needs
-
-moved-on-requires : tie.Need-moved-on-requires
-moved-on-requires c κs = search needs
 
 returns-2 : tie.Need-returns-2
 returns-2 c =
@@ -25,4 +16,4 @@ returns-2 c =
 
 pub conclude-spec : {M : Type 1} → statement M
 conclude-spec =
-    tie.close (tie.spec quiet-requires returns verdict-requires moved-on-requires returns-2)
+    tie.close (tie.spec (λ c κs. search needs) returns (λ c κs. search needs) (λ c κs. search needs) returns-2)

@@ -6,21 +6,6 @@ use Rattle.reverb.proofs.WholeParts.{played}
 use Rattle.reverb.proofs.units.whole_frame.Statement.{statement}
 use Rattle.reverb.proofs.units.whole_frame.Tie as tie
 
-run-frame-requires : tie.Need-run-frame-requires
-run-frame-requires c κs = search needs
-
-conclude-requires : tie.Need-conclude-requires
-conclude-requires c κs = search needs
-
-same-length : tie.Need-same-length
-same-length c = search needs
-
-same-length-2 : tie.Need-same-length-2
-same-length-2 c = search needs
-
-same-length-3 : tie.Need-same-length-3
-same-length-3 c = search needs
-
 returns : tie.Need-returns
 returns c =
     let ran = c .before .before .before .before .before .before .before in
@@ -33,9 +18,9 @@ pub whole-frame-spec : {M : Type 1} → statement M
 whole-frame-spec =
     tie.close
     (tie.spec
-    run-frame-requires
-    conclude-requires
-    same-length
-    same-length-2
-    same-length-3
+    (λ c κs. search needs)
+    (λ c κs. search needs)
+    (λ c. search needs)
+    (λ c. search needs)
+    (λ c. search needs)
     returns)

@@ -36,38 +36,14 @@ one-fits c =
 loop-holds : tie.Need-loop-holds Inv-loop μ-loop
 loop-holds c = band-start _ _ _ _ (c .before .pre .1)
 
-sub-if1 : tie.Need-sub-if1 Inv-loop μ-loop
-sub-if1 c = search needs
-
 mul-e : tie.Need-mul-e Inv-loop μ-loop
 mul-e c = omega (arith, four-fit c)
 
 add-e : tie.Need-add-e Inv-loop μ-loop
 add-e c = omega (arith, four-fit c)
 
-mul-twelve-at : tie.Need-mul-twelve-at Inv-loop μ-loop
-mul-twelve-at c = search needs
-
-mul-twelve-at-2 : tie.Need-mul-twelve-at-2 Inv-loop μ-loop
-mul-twelve-at-2 c = search needs
-
-sub-twelve-at : tie.Need-sub-twelve-at Inv-loop μ-loop
-sub-twelve-at c = search needs
-
-part-twelve-at-start : tie.Need-part-twelve-at-start Inv-loop μ-loop
-part-twelve-at-start c = search needs
-
 part-twelve-at-end : tie.Need-part-twelve-at-end Inv-loop μ-loop
 part-twelve-at-end c = omega (arith, four-fit c)
-
-twelve-at-requires : tie.Need-twelve-at-requires Inv-loop μ-loop
-twelve-at-requires c κs = search needs
-
-add-i : tie.Need-add-i Inv-loop μ-loop
-add-i c = search needs
-
-loop-less : tie.Need-loop-less Inv-loop μ-loop
-loop-less c = search needs
 
 loop-again : tie.Need-loop-again Inv-loop μ-loop
 loop-again c =
@@ -82,29 +58,8 @@ loop-again c =
 add-e-2 : tie.Need-add-e-2 Inv-loop μ-loop
 add-e-2 c = omega (arith, one-fits (c .before))
 
-mul-three-at : tie.Need-mul-three-at Inv-loop μ-loop
-mul-three-at c = search needs
-
-mul-three-at-2 : tie.Need-mul-three-at-2 Inv-loop μ-loop
-mul-three-at-2 c = search needs
-
-sub-three-at : tie.Need-sub-three-at Inv-loop μ-loop
-sub-three-at c = search needs
-
-part-three-at-start : tie.Need-part-three-at-start Inv-loop μ-loop
-part-three-at-start c = search needs
-
 part-three-at-end : tie.Need-part-three-at-end Inv-loop μ-loop
 part-three-at-end c = omega (arith, one-fits (c .before))
-
-three-at-requires : tie.Need-three-at-requires Inv-loop μ-loop
-three-at-requires c κs = search needs
-
-add-i-2 : tie.Need-add-i-2 Inv-loop μ-loop
-add-i-2 c = search needs
-
-loop-less-2 : tie.Need-loop-less-2 Inv-loop μ-loop
-loop-less-2 c = search needs
 
 loop-again-2 : tie.Need-loop-again-2 Inv-loop μ-loop
 loop-again-2 c =
@@ -115,9 +70,6 @@ loop-again-2 c =
     let few : 3 * s .args .n ≤ length (s .args .fs) = omega (arith, s .pre .0, s .good) in
     one-turn (s .args .n) (s .args .f) (s .args .fs) _ _ _ (l .i) (l .b) (l .gs) (l .rows) _ _ (turn .before .loop-test .taken) few (l .inv)
     (done-within (3 * l .i) 48 _ (called .three-at .ensures .0) (omega arith)) (done-within (3 * l .i) 48 _ (called .three-at .ensures .1) (omega arith))
-
-same-length : tie.Need-same-length Inv-loop μ-loop
-same-length c = search needs
 
 returns : tie.Need-returns Inv-loop μ-loop
 returns c =
@@ -132,27 +84,27 @@ band-lines-spec =
     Inv-loop
     μ-loop
     loop-holds
-    sub-if1
+    (λ c. search needs)
     mul-e
     add-e
-    mul-twelve-at
-    mul-twelve-at-2
-    sub-twelve-at
-    part-twelve-at-start
+    (λ c. search needs)
+    (λ c. search needs)
+    (λ c. search needs)
+    (λ c. search needs)
     part-twelve-at-end
-    twelve-at-requires
-    add-i
-    loop-less
+    (λ c κs. search needs)
+    (λ c. search needs)
+    (λ c. search needs)
     loop-again
     add-e-2
-    mul-three-at
-    mul-three-at-2
-    sub-three-at
-    part-three-at-start
+    (λ c. search needs)
+    (λ c. search needs)
+    (λ c. search needs)
+    (λ c. search needs)
     part-three-at-end
-    three-at-requires
-    add-i-2
-    loop-less-2
+    (λ c κs. search needs)
+    (λ c. search needs)
+    (λ c. search needs)
     loop-again-2
-    same-length
+    (λ c. search needs)
     returns)

@@ -11,18 +11,6 @@ use Rattle.rows.proofs.filters.three_at.Tie as tie
 returns : tie.Need-returns
 returns c = rw (lt-leb (c .before .before .args .k) 48 (c .if1 .taken)) (refl, refl)
 
-three-of-requires : tie.Need-three-of-requires
-three-of-requires c κs = search needs
-
-one-line-requires : tie.Need-one-line-requires
-one-line-requires c κs = search needs
-
-with-three-requires : tie.Need-with-three-requires
-with-three-requires c κs = search needs
-
-same-length : tie.Need-same-length
-same-length c = search needs
-
 returns-2 : tie.Need-returns-2
 returns-2 c =
     let called = c .before .before .before in
@@ -37,4 +25,4 @@ returns-2 c =
 pub three-at-spec : {M : Type 1} → statement M
 three-at-spec =
     tie.close
-    (tie.spec returns three-of-requires one-line-requires with-three-requires same-length returns-2)
+    (tie.spec returns (λ c κs. search needs) (λ c κs. search needs) (λ c κs. search needs) (λ c. search needs) returns-2)

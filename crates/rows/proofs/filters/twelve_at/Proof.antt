@@ -10,54 +10,6 @@ use borrow.Author.Needs.{needs}
 use Rattle.rows.proofs.filters.twelve_at.Statement.{statement}
 use Rattle.rows.proofs.filters.twelve_at.Tie as tie
 
-three-of-requires : tie.Need-three-of-requires
-three-of-requires c κs = search needs
-
-add-three-of : tie.Need-add-three-of
-add-three-of c = search needs
-
-three-of-requires-2 : tie.Need-three-of-requires-2
-three-of-requires-2 c κs = search needs
-
-add-three-of-2 : tie.Need-add-three-of-2
-add-three-of-2 c = search needs
-
-three-of-requires-3 : tie.Need-three-of-requires-3
-three-of-requires-3 c κs = search needs
-
-add-three-of-3 : tie.Need-add-three-of-3
-add-three-of-3 c = search needs
-
-three-of-requires-4 : tie.Need-three-of-requires-4
-three-of-requires-4 c κs = search needs
-
-four-lines-requires : tie.Need-four-lines-requires
-four-lines-requires c κs = search needs
-
-with-three-requires : tie.Need-with-three-requires
-with-three-requires c κs = search needs
-
-add-with-three : tie.Need-add-with-three
-add-with-three c = search needs
-
-with-three-requires-2 : tie.Need-with-three-requires-2
-with-three-requires-2 c κs = search needs
-
-add-with-three-2 : tie.Need-add-with-three-2
-add-with-three-2 c = search needs
-
-with-three-requires-3 : tie.Need-with-three-requires-3
-with-three-requires-3 c κs = search needs
-
-add-with-three-3 : tie.Need-add-with-three-3
-add-with-three-3 c = search needs
-
-with-three-requires-4 : tie.Need-with-three-requires-4
-with-three-requires-4 c κs = search needs
-
-same-length : tie.Need-same-length
-same-length c = search needs
-
 returns : tie.Need-returns
 returns c =
     let first = c .before .before .before in
@@ -80,20 +32,20 @@ pub twelve-at-spec : {M : Type 1} → statement M
 twelve-at-spec =
     tie.close
     (tie.spec
-    three-of-requires
-    add-three-of
-    three-of-requires-2
-    add-three-of-2
-    three-of-requires-3
-    add-three-of-3
-    three-of-requires-4
-    four-lines-requires
-    with-three-requires
-    add-with-three
-    with-three-requires-2
-    add-with-three-2
-    with-three-requires-3
-    add-with-three-3
-    with-three-requires-4
-    same-length
+    (λ c κs. search needs)
+    (λ c. search needs)
+    (λ c κs. search needs)
+    (λ c. search needs)
+    (λ c κs. search needs)
+    (λ c. search needs)
+    (λ c κs. search needs)
+    (λ c κs. search needs)
+    (λ c κs. search needs)
+    (λ c. search needs)
+    (λ c κs. search needs)
+    (λ c. search needs)
+    (λ c κs. search needs)
+    (λ c. search needs)
+    (λ c κs. search needs)
+    (λ c. search needs)
     returns)

@@ -10,15 +10,9 @@ use Rattle.rows.proofs.fits.few_rows.Reads as reads
 use Rattle.rows.proofs.fits.few_rows.Lts as lts
 use Rattle.samples.proofs.and.Reads as and-reads
 
-and-requires : tie.Need-and-requires
-and-requires c κs = search needs
-
-and-requires-2 : tie.Need-and-requires-2
-and-requires-2 c κs = search needs
-
 returns : tie.Need-returns
 unfolding fewRows
 returns c = c .and2 .ensures ∙ ap (λ (b : Bool). leb 1 (c .before .before .args .n) && b) (c .before .and .ensures)
 
 pub few-rows-spec : {M : Type 1} → statement M
-few-rows-spec = tie.close (tie.spec and-requires and-requires-2 returns)
+few-rows-spec = tie.close (tie.spec (λ c κs. search needs) (λ c κs. search needs) returns)

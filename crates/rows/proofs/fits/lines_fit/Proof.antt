@@ -14,9 +14,6 @@ use Rattle.rows.proofs.fits.lines_fit.Reads as reads
 use Rattle.rows.proofs.fits.lines_fit.Lts as lts
 use Rattle.rows.proofs.fits.few_rows.Reads as few-rows-reads
 
-few-rows-requires : tie.Need-few-rows-requires
-few-rows-requires c κs = search needs
-
 many : (n f len : ℕ) → fewRows n f ≡ false → false ≡ linesFit n f len
 unfolding linesFit
 many n f len e = rw e refl
@@ -53,4 +50,4 @@ returns-2 c = let a = c .before .before .args in alike (a .n) (a .f) (a .len) (p
 pub lines-fit-spec : {M : Type 1} → statement M
 lines-fit-spec =
     tie.close
-    (tie.spec few-rows-requires returns mul-result add-result mul-result-2 add-result-2 returns-2)
+    (tie.spec (λ c κs. search needs) returns mul-result add-result mul-result-2 add-result-2 returns-2)

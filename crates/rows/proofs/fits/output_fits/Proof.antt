@@ -17,9 +17,6 @@ use Rattle.rows.proofs.fits.few_rows.Reads as few-rows-reads
 use Rattle.rows.proofs.fits.sum_to.Reads as sum-to-reads
 use Rattle.samples.proofs.and.Reads as and-reads
 
-few-rows-requires : tie.Need-few-rows-requires
-few-rows-requires c κs = search needs
-
 many : (n f : ℕ) (ps : List ℕ) (len : ℕ) → fewRows n f ≡ false → false ≡ outputFits n f ps len
 unfolding outputFits
 many n f ps len e = rw e refl
@@ -49,12 +46,6 @@ add-rows-2 c = let s = small c in omega (arith, s .all, s .small)
 returns-2 : tie.Need-returns-2
 returns-2 c = let a = c .before .before .before .args in sym (output-short (a .n) (a .f) (a .ps) (a .len) (c .if2 .taken))
 
-sum-to-requires : tie.Need-sum-to-requires
-sum-to-requires c κs = search needs
-
-and-requires : tie.Need-and-requires
-and-requires c κs = search needs
-
 returns-3 : tie.Need-returns-3
 returns-3 c =
     let last = c .before .before in
@@ -67,13 +58,13 @@ pub output-fits-spec : {M : Type 1} → statement M
 output-fits-spec =
     tie.close
     (tie.spec
-    few-rows-requires
+    (λ c κs. search needs)
     returns
     mul-rows
     mul-rows-2
     add-rows
     add-rows-2
     returns-2
-    sum-to-requires
-    and-requires
+    (λ c κs. search needs)
+    (λ c κs. search needs)
     returns-3)

@@ -10,17 +10,8 @@ use Rattle.samples.proofs.and.Reads as and-reads
 use Rattle.samples.proofs.frame_ok.Reads as frame-ok-reads
 use Rattle.unit.proofs.work_ok.Reads as work-ok-reads
 
-frame-ok-requires : tie.Need-frame-ok-requires
-frame-ok-requires c κs = search needs
-
-work-ok-requires : tie.Need-work-ok-requires
-work-ok-requires c κs = search needs
-
-and-requires : tie.Need-and-requires
-and-requires c κs = search needs
-
 returns : tie.Need-returns
 returns c = c .and .ensures ∙ (λ i. c .before .before .frame-ok .ensures i && c .before .work-ok .ensures i)
 
 pub work-for-spec : {M : Type 1} → statement M
-work-for-spec = tie.close (tie.spec frame-ok-requires work-ok-requires and-requires returns)
+work-for-spec = tie.close (tie.spec (λ c κs. search needs) (λ c κs. search needs) (λ c κs. search needs) returns)

@@ -26,12 +26,6 @@ fits c =
     let s = c .before .before .before in
     omega (arith, l .inv .1, row-fits (s .args .n) (s .args .f) (l .counter) (l .e) _ (l .inv .0) (c .loop-test .taken))
 
-mul-e : tie.Need-mul-e Inv-loop μ-loop
-mul-e c = search needs
-
-add-e : tie.Need-add-e Inv-loop μ-loop
-add-e c = search needs
-
 loop-holds : tie.Need-loop-holds Inv-loop μ-loop
 loop-holds c =
     let s = c .before in
@@ -40,23 +34,8 @@ loop-holds c =
 add-e-2 : tie.Need-add-e-2 Inv-loop μ-loop
 add-e-2 c = omega (arith, fits c)
 
-sub-add-first : tie.Need-sub-add-first Inv-loop μ-loop
-sub-add-first c = search needs
-
-part-add-first-start : tie.Need-part-add-first-start Inv-loop μ-loop
-part-add-first-start c = search needs
-
 part-add-first-end : tie.Need-part-add-first-end Inv-loop μ-loop
 part-add-first-end c = omega (arith, fits c)
-
-add-first-requires : tie.Need-add-first-requires Inv-loop μ-loop
-add-first-requires c κs = search needs
-
-add-counter : tie.Need-add-counter Inv-loop μ-loop
-add-counter c = search needs
-
-loop-less : tie.Need-loop-less Inv-loop μ-loop
-loop-less c = search needs
 
 loop-again : tie.Need-loop-again Inv-loop μ-loop
 loop-again c =
@@ -65,9 +44,6 @@ loop-again c =
     let l = turn .before .loop in
     let s = turn .before .before .before in
     add-turn (s .args .n) (s .args .f) _ _ _ (l .counter) (l .e) (l .rows) _ (turn .loop-test .taken) (l .inv) (called .add-first .ensures)
-
-same-length : tie.Need-same-length Inv-loop μ-loop
-same-length c = search needs
 
 returns : tie.Need-returns Inv-loop μ-loop
 returns c =
@@ -81,16 +57,16 @@ add-lines-spec =
     (tie.spec
     Inv-loop
     μ-loop
-    mul-e
-    add-e
+    (λ c. search needs)
+    (λ c. search needs)
     loop-holds
     add-e-2
-    sub-add-first
-    part-add-first-start
+    (λ c. search needs)
+    (λ c. search needs)
     part-add-first-end
-    add-first-requires
-    add-counter
-    loop-less
+    (λ c κs. search needs)
+    (λ c. search needs)
+    (λ c. search needs)
     loop-again
-    same-length
+    (λ c. search needs)
     returns)

@@ -8,9 +8,6 @@ use borrow.Author.Needs.{needs}
 use Rattle.turns.proofs.marks.all_done.Statement.{statement}
 use Rattle.turns.proofs.marks.all_done.Tie as tie
 
-first-done-requires : tie.Need-first-done-requires
-first-done-requires c κs = search needs
-
 returns : tie.Need-returns
 returns c =
     let marks = c .before .args .marks in
@@ -18,4 +15,4 @@ returns c =
     c .first-done .ensures ∙ ap allDone (take-all 34 marks all)
 
 pub all-done-spec : {M : Type 1} → statement M
-all-done-spec = tie.close (tie.spec first-done-requires returns)
+all-done-spec = tie.close (tie.spec (λ c κs. search needs) returns)

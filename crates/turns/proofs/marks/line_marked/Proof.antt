@@ -9,15 +9,6 @@ use borrow.Author.Needs.{needs}
 use Rattle.turns.proofs.marks.line_marked.Statement.{statement}
 use Rattle.turns.proofs.marks.line_marked.Tie as tie
 
-add-result : tie.Need-add-result
-add-result c = search needs
-
-array-read-result : tie.Need-array-read-result
-array-read-result c = search needs
-
-returns : tie.Need-returns
-returns c = search needs
-
 returns-2 : tie.Need-returns-2
 returns-2 c =
     let marks = c .before .args .t1 in
@@ -26,4 +17,4 @@ returns-2 c =
     sym (past marks (16 + 1 + c .before .args .line) false far)
 
 pub line-marked-spec : {M : Type 1} → statement M
-line-marked-spec = tie.close (tie.spec add-result array-read-result returns returns-2)
+line-marked-spec = tie.close (tie.spec (λ c. search needs) (λ c. search needs) (λ c. search needs) returns-2)

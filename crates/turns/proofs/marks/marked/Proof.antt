@@ -9,12 +9,6 @@ use borrow.Author.Needs.{needs}
 use Rattle.turns.proofs.marks.marked.Statement.{statement}
 use Rattle.turns.proofs.marks.marked.Tie as tie
 
-array-read-result : tie.Need-array-read-result
-array-read-result c = search needs
-
-returns : tie.Need-returns
-returns c = search needs
-
 returns-2 : tie.Need-returns-2
 returns-2 c =
     let marks = c .before .args .t1 in
@@ -23,4 +17,4 @@ returns-2 c =
     sym (past marks (c .before .args .k) false far)
 
 pub marked-spec : {M : Type 1} → statement M
-marked-spec = tie.close (tie.spec array-read-result returns returns-2)
+marked-spec = tie.close (tie.spec (λ c. search needs) (λ c. search needs) returns-2)

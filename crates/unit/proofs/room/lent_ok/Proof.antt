@@ -5,18 +5,6 @@ use Rattle.samples.proofs.Laws.{and-of}
 use Rattle.unit.proofs.room.lent_ok.Statement.{statement}
 use Rattle.unit.proofs.room.lent_ok.Tie as tie
 
-store-ok-requires : tie.Need-store-ok-requires
-store-ok-requires c κs = search needs
-
-work-ok-requires : tie.Need-work-ok-requires
-work-ok-requires c κs = search needs
-
-and-requires : tie.Need-and-requires
-and-requires c κs = search needs
-
-and-requires-2 : tie.Need-and-requires-2
-and-requires-2 c κs = search needs
-
 returns : tie.Need-returns
 returns c =
     let work = c .before .before in
@@ -24,4 +12,4 @@ returns c =
 
 pub lent-ok-spec : {M : Type 1} → statement M
 lent-ok-spec =
-    tie.close (tie.spec store-ok-requires work-ok-requires and-requires and-requires-2 returns)
+    tie.close (tie.spec (λ c κs. search needs) (λ c κs. search needs) (λ c κs. search needs) (λ c κs. search needs) returns)

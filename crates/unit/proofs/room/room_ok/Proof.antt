@@ -5,27 +5,6 @@ use Rattle.unit.specs.Room.{roomOk}
 use Rattle.unit.proofs.room.room_ok.Statement.{statement}
 use Rattle.unit.proofs.room.room_ok.Tie as tie
 
-frame-ok-requires : tie.Need-frame-ok-requires
-frame-ok-requires c κs = search needs
-
-lines-ok-requires : tie.Need-lines-ok-requires
-lines-ok-requires c κs = search needs
-
-passes-ok-requires : tie.Need-passes-ok-requires
-passes-ok-requires c κs = search needs
-
-and-requires : tie.Need-and-requires
-and-requires c κs = search needs
-
-lent-ok-requires : tie.Need-lent-ok-requires
-lent-ok-requires c κs = search needs
-
-and-requires-2 : tie.Need-and-requires-2
-and-requires-2 c κs = search needs
-
-and-requires-3 : tie.Need-and-requires-3
-and-requires-3 c κs = search needs
-
 returns : tie.Need-returns
 unfolding roomOk
 returns c =
@@ -39,11 +18,11 @@ pub room-ok-spec : {M : Type 1} → statement M
 room-ok-spec =
     tie.close
     (tie.spec
-    frame-ok-requires
-    lines-ok-requires
-    passes-ok-requires
-    and-requires
-    lent-ok-requires
-    and-requires-2
-    and-requires-3
+    (λ c κs. search needs)
+    (λ c κs. search needs)
+    (λ c κs. search needs)
+    (λ c κs. search needs)
+    (λ c κs. search needs)
+    (λ c κs. search needs)
+    (λ c κs. search needs)
     returns)

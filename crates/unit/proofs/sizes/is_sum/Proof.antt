@@ -26,9 +26,6 @@ left-over len base k h = go (eqb (len - k) base) mathlib.Core.Path.refl
     go true e = let l = eqb-true (len - k) base e in sym (eq-eqb len (base + k) (omega arith))
     go false e = let l = eqb-false (len - k) base e in sym (ne-eqb len (base + k) (λ (q : len ≡ base + k). l (omega arith)))
 
-div-if1 : tie.Need-div-if1
-div-if1 c = search needs
-
 mul-result : tie.Need-mul-result
 mul-result c = let a = c .before in omega (arith, rows-fit (a .args .len) (a .args .rows) (a .args .frame) (a .pre) (c .if1 .taken))
 
@@ -42,4 +39,4 @@ returns-2 : tie.Need-returns-2
 returns-2 c = let a = c .before in too-many _ _ _ _ (a .pre) (c .if1 .left)
 
 pub is-sum-spec : {M : Type 1} → statement M
-is-sum-spec = tie.close (tie.spec div-if1 mul-result sub-result returns returns-2)
+is-sum-spec = tie.close (tie.spec (λ c. search needs) mul-result sub-result returns returns-2)

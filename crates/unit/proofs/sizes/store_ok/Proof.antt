@@ -6,13 +6,10 @@ use Rattle.unit.proofs.Laws.{store-is}
 use Rattle.unit.proofs.sizes.store_ok.Statement.{statement}
 use Rattle.unit.proofs.sizes.store_ok.Tie as tie
 
-is-sum-requires : tie.Need-is-sum-requires
-is-sum-requires c κs = search needs
-
 returns : tie.Need-returns
 returns c =
     let a = c .before .args in
     c .is-sum .ensures ∙ ap (eqb (a .store)) (sym (store-is (a .frame)))
 
 pub store-ok-spec : {M : Type 1} → statement M
-store-ok-spec = tie.close (tie.spec is-sum-requires returns)
+store-ok-spec = tie.close (tie.spec (λ c κs. search needs) returns)

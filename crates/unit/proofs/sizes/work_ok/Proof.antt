@@ -6,13 +6,10 @@ use Rattle.unit.proofs.Laws.{work-is}
 use Rattle.unit.proofs.sizes.work_ok.Statement.{statement}
 use Rattle.unit.proofs.sizes.work_ok.Tie as tie
 
-is-sum-requires : tie.Need-is-sum-requires
-is-sum-requires c κs = search needs
-
 returns : tie.Need-returns
 returns c =
     let a = c .before .args in
     c .is-sum .ensures ∙ ap (eqb (a .work)) (sym (work-is (a .frame)))
 
 pub work-ok-spec : {M : Type 1} → statement M
-work-ok-spec = tie.close (tie.spec is-sum-requires returns)
+work-ok-spec = tie.close (tie.spec (λ c κs. search needs) returns)
