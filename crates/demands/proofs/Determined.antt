@@ -4,7 +4,7 @@ use mathlib.Core.Path.{_≡_, sym, _∙_}
 use lib.ListN.{getD}
 use denote.Ref.{now}
 use Rattle.lanes.specs.declared.bank.FourBands.{FourBands}
-use Rattle.fours.specs.Lines.{lines}
+use Rattle.bank.specs.Lines.{lines}
 use Rattle.demands.specs.Determined.{OneResult, OneValue, OneExit}
 use Rattle.samples.proofs.number.Kinds as samples-number-kinds
 use Rattle.samples.proofs.number.Reads as samples-number-reads
@@ -222,16 +222,16 @@ use Rattle.lanes.proofs.bands_at.Kinds as lanes-bands-at-kinds
 use Rattle.lanes.proofs.bands_at.Reads as lanes-bands-at-reads
 use Rattle.lanes.proofs.step_bank.Kinds as lanes-step-bank-kinds
 use Rattle.lanes.proofs.step_bank.Reads as lanes-step-bank-reads
-use Rattle.alone.proofs.one_line.Kinds as alone-one-line-kinds
-use Rattle.alone.proofs.one_line.Reads as alone-one-line-reads
+use Rattle.bank.proofs.one_line.Kinds as bank-one-line-kinds
+use Rattle.bank.proofs.one_line.Reads as bank-one-line-reads
 use Rattle.rows.proofs.three_at.Kinds as rows-three-at-kinds
 use Rattle.rows.proofs.three_at.Reads as rows-three-at-reads
 use Rattle.rows.proofs.output_fits.Kinds as rows-output-fits-kinds
 use Rattle.rows.proofs.output_fits.Reads as rows-output-fits-reads
 use Rattle.rows.proofs.work_for.Kinds as rows-work-for-kinds
 use Rattle.rows.proofs.work_for.Reads as rows-work-for-reads
-use Rattle.fours.proofs.four_lines.Kinds as fours-four-lines-kinds
-use Rattle.fours.proofs.four_lines.Reads as fours-four-lines-reads
+use Rattle.bank.proofs.four_lines.Kinds as bank-four-lines-kinds
+use Rattle.bank.proofs.four_lines.Reads as bank-four-lines-reads
 
 -- ---- samples
 
@@ -357,25 +357,23 @@ lanes-bands-at κs a x y s t p q = p ∙ sym (q)
 pub lanes-step-bank : OneResult 0 lanes-step-bank-kinds.ps lanes-step-bank-kinds.r lanes-step-bank-reads.Post
 lanes-step-bank κs a x y s t p q = p ∙ sym (q)
 
--- ---- fours
+-- ---- bank
 
 -- four bands are told by the list of them
 same-bands : (x y : FourBands) → lines x ≡ lines y → x ≡ y
 same-bands x y e = λ i. record { b0 = getD (e i) 0 (x .b0); b1 = getD (e i) 1 (x .b0); b2 = getD (e i) 2 (x .b0); b3 = getD (e i) 3 (x .b0) }
 
-pub fours-four-lines : OneResult 1 fours-four-lines-kinds.ps fours-four-lines-kinds.r fours-four-lines-reads.Post
-fours-four-lines κs a x y s t p q = same-bands _ _ (p .0 ∙ sym (q .0))
+pub bank-four-lines : OneResult 1 bank-four-lines-kinds.ps bank-four-lines-kinds.r bank-four-lines-reads.Post
+bank-four-lines κs a x y s t p q = same-bands _ _ (p .0 ∙ sym (q .0))
 
-pub fours-four-lines-rows : OneExit 1 fours-four-lines-kinds.ps fours-four-lines-kinds.r fours-four-lines-reads.Post (λ κs s. s .1 .0 .now)
-fours-four-lines-rows κs a x y s t p q = p .1 ∙ sym (q .1)
+pub bank-four-lines-rows : OneExit 1 bank-four-lines-kinds.ps bank-four-lines-kinds.r bank-four-lines-reads.Post (λ κs s. s .1 .0 .now)
+bank-four-lines-rows κs a x y s t p q = p .1 ∙ sym (q .1)
 
--- ---- alone
+pub bank-one-line : OneResult 1 bank-one-line-kinds.ps bank-one-line-kinds.r bank-one-line-reads.Post
+bank-one-line κs a x y s t p q = p .0 ∙ sym (q .0)
 
-pub alone-one-line : OneResult 1 alone-one-line-kinds.ps alone-one-line-kinds.r alone-one-line-reads.Post
-alone-one-line κs a x y s t p q = p .0 ∙ sym (q .0)
-
-pub alone-one-line-xs : OneExit 1 alone-one-line-kinds.ps alone-one-line-kinds.r alone-one-line-reads.Post (λ κs s. s .1 .0 .now)
-alone-one-line-xs κs a x y s t p q = p .1 ∙ sym (q .1)
+pub bank-one-line-xs : OneExit 1 bank-one-line-kinds.ps bank-one-line-kinds.r bank-one-line-reads.Post (λ κs s. s .1 .0 .now)
+bank-one-line-xs κs a x y s t p q = p .1 ∙ sym (q .1)
 
 -- ---- hadamard
 

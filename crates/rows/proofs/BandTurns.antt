@@ -17,7 +17,7 @@ use Rattle.iir.specs.declared.Bands.{Bands}
 use Rattle.iir.specs.Runs.{bandsOut, bandsEnd}
 use Rattle.iir.proofs.Laws.{bands-length}
 use Rattle.lanes.specs.declared.bank.FourBands.{FourBands}
-use Rattle.fours.specs.Lines.{lines, linesOut, linesEnd}
+use Rattle.bank.specs.Lines.{lines, linesOut, linesEnd}
 use Rattle.frame.specs.Lines.{noFilter, bandRows, bandEnds, three, threeOf}
 use Rattle.frame.proofs.RowLaws.{byBands, peel, length-bandEnds}
 use Rattle.rows.specs.Groups.{fourFrom, inOrder}

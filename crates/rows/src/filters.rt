@@ -10,7 +10,7 @@ ghost use lib.Dec.{leb};
 ghost use lib.ListN.{length, drop};
 ghost use Rattle.samples.specs.Lists.{over};
 ghost use Rattle.iir.specs.Runs.{bandsOut, bandsEnd};
-ghost use Rattle.fours.specs.Lines.{linesOut, linesEnd};
+ghost use Rattle.bank.specs.Lines.{linesOut, linesEnd};
 ghost use Rattle.frame.specs.Lines.{bandRows, bandEnds, three, threeOf};
 ghost use Rattle.rows.specs.Groups.{fourFrom, inOrder};
 
@@ -49,7 +49,7 @@ pub fn three_at(k: usize, fs: [Filter; 51], row: &mut [f32]) -> [Filter; 51]
     if 48 < k {
         return fs;
     }
-    let h = alone::one_line(three_of(k, fs), row);
+    let h = bank::one_line(three_of(k, fs), row);
     with_three(k, h, fs)
 }
 
@@ -64,7 +64,7 @@ fn twelve_at(k: usize, fs: [Filter; 51], rows: &mut [f32]) -> [Filter; 51]
     let b1 = three_of(k + 3, fs);
     let b2 = three_of(k + 6, fs);
     let b3 = three_of(k + 9, fs);
-    let h = fours::four_lines(FourBands { b0, b1, b2, b3 }, rows);
+    let h = bank::four_lines(FourBands { b0, b1, b2, b3 }, rows);
     let g0 = with_three(k, h.b0, fs);
     let g1 = with_three(k + 3, h.b1, g0);
     let g2 = with_three(k + 6, h.b2, g1);

@@ -1,2 +1,0 @@
-pub mod BehindLaws
-pub mod BehindTurns

@@ -1,4 +1,0 @@
-pub mod ColumnLaws
-pub mod TileLaws
-pub mod TileTurns
-pub mod RowTurns
