@@ -18,7 +18,7 @@ use Rattle.bands.specs.Times.{timeOk, timesOk}
 use Rattle.unit.specs.Hall.{Hall}
 use Rattle.unit.specs.Model.{wall}
 use Rattle.judges.specs.Judges.{judged, givenOk, lentOk, badInput, judgedGiven}
-use Rattle.settings.specs.Settings.{frame, storeFloats, workFloats, times, lineGains, coefficients}
+use Rattle.shell.specs.Settings.{frame, storeFloats, workFloats, times, lineGains, coefficients}
 use Rattle.shell.specs.Frames.{heard, inputDue}
 use Rattle.shell.specs.Refused.{Patterns}
 

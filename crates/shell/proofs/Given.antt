@@ -12,7 +12,7 @@ use Rattle.judges.specs.Judges.{judgedApply, judgedTail}
 use Rattle.frame.specs.Frame.{Frame}
 use Rattle.silence.specs.declared.Outcome.{Outcome}
 use Rattle.reverb.specs.Whole.{applyFrame, wholeOutcome, wholeStore, wholeWork, wholeOutput}
-use Rattle.settings.specs.Settings.{storeFloats, workFloats, times, coefficients}
+use Rattle.shell.specs.Settings.{storeFloats, workFloats, times, coefficients}
 use Rattle.shell.specs.Frames.{heard, inputDue, inputFrame, tailDue}
 
 -- what is due of each call on memory of the program's lengths

@@ -1,3 +1,4 @@
+pub mod Filled
 pub mod Given
 pub mod Silence
 pub mod SeventySix

@@ -14,9 +14,8 @@ use Rattle.unit.specs.Fresh.{freshHall}
 use Rattle.unit.specs.Sizes.{lengthsFrom, total, storeLen, workLen}
 use Rattle.frame.specs.Frame.{newFilters}
 use Rattle.reverb.specs.Whole.{after, applyCount, wholeUnit}
-use Rattle.settings.specs.Settings.{frame, rate, times}
+use Rattle.shell.specs.Settings.{frame, rate, times, calls}
 use Rattle.shell.specs.Frames.{inputFrame}
-use Rattle.settings.specs.Settings.{calls}
 use Rattle.shell.specs.Counts.{Input, answered, next, last, any, SeventySix, Room}
 
 count-is : tailCount times 48000 128 ≡ 76

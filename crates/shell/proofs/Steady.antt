@@ -28,7 +28,7 @@ use Rattle.judges.specs.Judges.{judged}
 use Rattle.frame.specs.Frame.{Frame, newFilters}
 use Rattle.frame.specs.Settle.{movedBy, allMoved}
 use Rattle.reverb.specs.Whole.{after, wholeAnswer, wholeUnit}
-use Rattle.settings.specs.Settings.{frame, rate}
+use Rattle.shell.specs.Settings.{frame, rate}
 use Rattle.shell.specs.Frames.{tailDue}
 use Rattle.shell.specs.Refused.{Turn, input, tail, turned, OnlySamples}
 use Rattle.shell.proofs.Eight.{readyDue, eight}

@@ -10,9 +10,8 @@ use Rattle.unit.specs.Hall.{Hall, ofState}
 use Rattle.unit.specs.Model.{wall}
 use Rattle.unit.specs.Fresh.{freshHall}
 use Rattle.unit.specs.Sizes.{storeLen, workLen}
-use Rattle.settings.specs.Settings.{frame, rate, storeFloats, workFloats}
+use Rattle.shell.specs.Settings.{frame, rate, storeFloats, workFloats, calls}
 use Rattle.shell.specs.Frames.{inputOutcome}
-use Rattle.settings.specs.Settings.{calls}
 
 -- a frame of input: its bytes, and the store that is lent
 pub record Input : Type 0 where

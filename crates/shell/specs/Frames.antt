@@ -13,7 +13,7 @@ use Rattle.frame.specs.Frame.{Frame}
 use Rattle.frame.specs.Settle.{fallen}
 use Rattle.silence.specs.declared.Outcome.{Outcome}
 use Rattle.reverb.specs.Whole.{applyFrame, applyCount, tailFrame, wholeAnswer, wholeOutcome, wholeStore, wholeWork}
-use Rattle.settings.specs.Settings.{frame, storeFloats, workFloats, times, coefficients}
+use Rattle.shell.specs.Settings.{frame, storeFloats, workFloats, times, coefficients}
 
 -- "It reads little-endian binary32 .., pads the last frame with +0, ignores 1 to 3 odd bytes": the samples of a frame's bytes
 abbrev pub heard : List ℕ → List Float

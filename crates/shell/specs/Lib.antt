@@ -1,3 +1,4 @@
+pub mod Settings
 pub mod Frames
 pub mod Counts
 pub mod Refused

@@ -11,7 +11,7 @@ use Rattle.unit.specs.Hall.{Hall, ofState}
 use Rattle.unit.specs.Model.{wall}
 use Rattle.unit.specs.Fresh.{freshHall}
 use Rattle.judges.specs.Judges.{badInput}
-use Rattle.settings.specs.Settings.{frame, rate}
+use Rattle.shell.specs.Settings.{frame, rate}
 use Rattle.shell.specs.Frames.{heard, inputDue, inputOutcome, tailDue, tailOutcome}
 
 -- what the program does to a unit: a frame of input, or one of the tail, each on any store

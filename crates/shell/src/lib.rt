@@ -1,11 +1,16 @@
-// One frame of document 01's program, from bytes to bytes: what the program does between its reads
-// and its writes.
+// Document 01's program between its reads and its writes: what it is set to, and one frame, from bytes
+// to bytes.
 //
-// Its contracts cite `specs/`: what a frame of input and a frame of the tail give, leave and write.
-use settings::STORE;
-use settings::WORK;
-use settings::coefficients;
-use settings::times;
+// Its contracts cite `specs/`: what a frame of input and a frame of the tail give, leave and write, and
+// the settings.
+mod settings;
+
+pub use settings::STORE;
+pub use settings::WORK;
+pub use settings::coefficients;
+pub use settings::start;
+pub use settings::tail_calls;
+pub use settings::times;
 use silence::Outcome;
 use unit::State;
 ghost use mathlib.Core.Path.{_≡_};

@@ -5,8 +5,8 @@
 // bytes are read or written.
 use libc::STDIN_FILENO;
 use libc::STDOUT_FILENO;
-use settings::STORE;
-use settings::WORK;
+use shell::STORE;
+use shell::WORK;
 use unit::State;
 ghost use Prim.Native.Nat.{_≤_};
 ghost use lib.ListN.{length};
@@ -127,12 +127,12 @@ fn tails(s: State, calls: u32, store: &mut [f32; STORE], work: &mut [f32; WORK])
 
 // The whole program, on the memory lent.
 fn play(store: &mut [f32; STORE], work: &mut [f32; WORK]) {
-    let fresh = settings::start(store);
+    let fresh = shell::start(store);
     let w = frames(fresh.state, store, work);
     let state = w.state;
     let count = state.count;
     if w.written {
-        tails(state, settings::tail_calls(count), store, work);
+        tails(state, shell::tail_calls(count), store, work);
     }
 }
 

@@ -7,7 +7,7 @@ use denote.Ref.{now}
 use Rattle.samples.specs.Binary32.{+0}
 use Rattle.unit.specs.Hall.{ofState}
 use Rattle.reverb.specs.Whole.{applyCount}
-use Rattle.settings.specs.Settings.{storeFloats, workFloats}
+use Rattle.shell.specs.Settings.{storeFloats, workFloats}
 use Rattle.shell.specs.Frames.{inputDue, inputFrame}
 use Rattle.shell.proofs.Given.{given-due, given-frame, same-outcome, same-store, same-work, same-output}
 use Rattle.shell.proofs.Silence.{as-said}

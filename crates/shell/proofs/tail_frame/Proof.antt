@@ -8,7 +8,7 @@ use Rattle.samples.specs.Binary32.{+0}
 use Rattle.unit.specs.Hall.{ofState}
 use Rattle.unit.specs.Model.{wall}
 use Rattle.reverb.specs.Whole.{tailFrame}
-use Rattle.settings.specs.Settings.{storeFloats, workFloats}
+use Rattle.shell.specs.Settings.{storeFloats, workFloats}
 use Rattle.shell.specs.Frames.{tailDue}
 use Rattle.shell.proofs.Given.{lent-due, same-outcome, same-store, same-work, same-output}
 use Rattle.shell.proofs.Silence.{as-said}

@@ -7,7 +7,7 @@ use lib.Dec.{ltb, eqb}
 use lib.Ieee.{Float, binary32, ofBits}
 use lib.ListN.{set, replicate}
 use Rattle.samples.specs.Binary32.{+0}
-use Rattle.settings.specs.Settings.{lineGains, coefficients}
+use Rattle.shell.specs.Settings.{lineGains, coefficients}
 
 -- by what filter k multiplies
 abbrev pub factor : ℕ → Float

@@ -1,8 +1,8 @@
--- `settings::b0` meets its contract. Assumes nothing.
+-- `shell::settings::b0` meets its contract. Assumes nothing.
 use borrow.Author.Needs.{needs}
 use mathlib.Core.Path.{sym, _∙_}
-use Rattle.settings.proofs.b0.Statement.{statement}
-use Rattle.settings.proofs.b0.Tie as tie
+use Rattle.shell.proofs.settings.b0.Statement.{statement}
+use Rattle.shell.proofs.settings.b0.Tie as tie
 
 returns : tie.Need-returns
 returns c = rw (sym (c .before .and .ensures) ∙ c .if1 .taken)

@@ -1,4 +1,4 @@
--- `settings::tail_calls` meets its contract: a number above 0 is its magnitude, which fits. Assumes nothing.
+-- `shell::settings::tail_calls` meets its contract: a number above 0 is its magnitude, which fits. Assumes nothing.
 use native.Mathlib.Omega.{arith}
 use mathlib.Core.Path.{_≡_, refl, sym, subst}
 use mathlib.Core.Bool.{true, false}
@@ -10,9 +10,9 @@ use mir.Syntax.{w32}
 use mir.ValLaws.{toZ-ofZ}
 use borrow.Author.Needs.{sfits-of}
 use borrow.Author.Tests.{lt-ltb}
-use Rattle.settings.specs.Settings.{calls}
-use Rattle.settings.proofs.tail_calls.Statement.{statement}
-use Rattle.settings.proofs.tail_calls.Tie as tie
+use Rattle.shell.specs.Settings.{calls}
+use Rattle.shell.proofs.settings.tail_calls.Statement.{statement}
+use Rattle.shell.proofs.settings.tail_calls.Tie as tie
 
 above : (z : ℤ) → mag z < 2147483648 → ltZ (pos 0) z ≡ true → T (nonNeg z) × (natAbs z < 4294967296) × (natAbs z ≡ calls z)
 above (pos n) h t = (tt, omega arith, refl)

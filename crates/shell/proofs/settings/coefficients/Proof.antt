@@ -1,13 +1,13 @@
--- `settings::coefficients` meets its contract. The invariant: the first k filters have their factors. Assumes nothing.
+-- `shell::settings::coefficients` meets its contract. The invariant: the first k filters have their factors. Assumes nothing.
 use borrow.Author.Needs.{needs}
 use native.Mathlib.Omega.{arith}
 use mathlib.Core.Path.{_≡_, refl, ap, _∙_}
 use Prim.Native.Nat.{suc, _≤_, _+_, _-_, _*_}
 use native.Mathlib.Numerals.{add-one}
 use lib.ListN.{length, set, length-set}
-use Rattle.settings.proofs.Filled.{filled, none-filled, one-more, all-filled}
-use Rattle.settings.proofs.coefficients.Statement.{statement}
-use Rattle.settings.proofs.coefficients.Tie as tie
+use Rattle.shell.proofs.Filled.{filled, none-filled, one-more, all-filled}
+use Rattle.shell.proofs.settings.coefficients.Statement.{statement}
+use Rattle.shell.proofs.settings.coefficients.Tie as tie
 
 abbrev Inv-loop : tie.InvT-loop
 Inv-loop cs₀ k₀ cs k = (k ≤ 51) × (length cs ≡ 255) × (cs ≡ filled k)

@@ -1,4 +1,4 @@
--- `settings::start` meets its contract: on a store of its length a fresh unit is accepted. Assumes nothing.
+-- `shell::settings::start` meets its contract: on a store of its length a fresh unit is accepted. Assumes nothing.
 use borrow.Author.Needs.{needs}
 use native.Mathlib.Omega.{arith}
 use mathlib.Core.Path.{_≡_, refl}
@@ -9,9 +9,9 @@ use Rattle.samples.specs.Sizes.{rateOk, frameOk}
 use Rattle.unit.specs.Model.{wall}
 use Rattle.unit.specs.Sizes.{lengthsFrom, total, storeLen}
 use Rattle.judges.specs.Judges.{judgedFresh}
-use Rattle.settings.specs.Settings.{frame, rate, storeFloats}
-use Rattle.settings.proofs.start.Statement.{statement}
-use Rattle.settings.proofs.start.Tie as tie
+use Rattle.shell.specs.Settings.{frame, rate, storeFloats}
+use Rattle.shell.proofs.settings.start.Statement.{statement}
+use Rattle.shell.proofs.settings.start.Tie as tie
 
 fresh-accepted : judgedFresh wall rate frame storeFloats ≡ Accepted
 unfolding judgedFresh rateOk frameOk storeLen total lengthsFrom

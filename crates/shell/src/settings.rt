@@ -1,7 +1,5 @@
 // What document 01's program is set to: its times and filters, its unit at the start, and how many tail
 // frames it plays.
-//
-// Its contracts cite `specs/`.
 use bands::Times;
 use samples::Frames;
 use samples::and;
@@ -18,7 +16,7 @@ ghost use Rattle.unit.specs.Model.{wall};
 ghost use Rattle.unit.specs.Fresh.{freshHall};
 ghost use Rattle.silence.specs.Silence.{outcome};
 ghost use Rattle.audio_buffer.specs.declared.AudioEffectState.the-variants.{TailComplete};
-ghost use Rattle.settings.specs.Settings.{frame, rate, storeFloats, times, coefficients, calls};
+ghost use Rattle.shell.specs.Settings.{frame, rate, storeFloats, times, coefficients, calls};
 
 // How many floats of store the program's unit is lent.
 pub const STORE: usize = 9648;
