@@ -11,7 +11,7 @@ use lib.Seq.{take-at, drop-at, drop-append-le, drop-drop}
 use borrow.Author.Tests.{le-leb, leb-true}
 use Rattle.samples.specs.Lists.{over}
 use Rattle.samples.proofs.Laws.{split-and}
-use Rattle.samples.proofs.Turns.{over-length}
+use Rattle.samples.proofs.Lists.{take-two, drop-two, over-length, over-at}
 use Rattle.delay.specs.declared.Cursors.{Cursors}
 use Rattle.delay.specs.Ring.{listOf, fourOf}
 use Rattle.delay.specs.Calls.{get4Answer}
@@ -66,20 +66,6 @@ pass-front (suc n) s row rest h =
 -- ---- a stage in memory: w is p, then q with the fours in front, then the two rings, then v
 
 module _ {A : Type 0} where
-  take-two : (p q r : List A) (n : ℕ) → length p + length q ≡ n → take n (p ++ (q ++ r)) ≡ p ++ q
-  take-two p q r n e = rw (← append-assoc p q r) (take-at (p ++ q) r n (length-append p q ∙ e))
-
-  drop-two : (p q r : List A) (n : ℕ) → length p + length q ≡ n → drop n (p ++ (q ++ r)) ≡ r
-  drop-two p q r n e = rw (← append-assoc p q r) (drop-at (p ++ q) r n (length-append p q ∙ e))
-
-  -- a row over what comes after p
-  over-at : (p q row : List A) (at : ℕ) → length p ≡ at → over at row (p ++ q) ≡ p ++ (row ++ drop (length row) q)
-  unfolding over
-  over-at p q row at e =
-      let d : drop (at + length row) (p ++ q) ≡ drop (length row) q =
-      sym (drop-drop (length row) at (p ++ q)) ∙ ap (drop (length row)) (drop-at p q at e) in
-      rw (take-at p q at e, d) refl
-
   -- what holds of every list in such parts holds of w
   in-parts : (P : List A → Type 0) (t at lx ly : ℕ) (w : List A) → t ≤ at → at + (lx + ly) ≤ length w
       → ((p q x y v : List A) → length p ≡ t → length p + length q ≡ at → length x ≡ lx → length y ≡ ly → P (p ++ (q ++ (x ++ (y ++ v))))) → P w
@@ -122,9 +108,9 @@ module _ (n t at lx ly : ℕ) (p q v : List Float) (s : Stage) (lp : length p �
       let same = pass-rings n s q in
       let le : length (s .x) + length (s .y) ≡ length (bothRings e) = rw length-append (omega arith) in
       let inner : over at (bothRings e) (whole s q) ≡ whole e q =
-      rw (← append-assoc p q rings, over-at (p ++ q) rings (bothRings e) at (length-append p q ∙ lq))
+      rw (← append-assoc p q rings, over-at (bothRings e) at (p ++ q) rings (length-append p q ∙ lq))
       (rw (drop-two (s .x) (s .y) v (length (bothRings e)) le) (simp append-assoc)) in
-      rw (after-laid, stage-here, drop-at p (q ++ rings) t lp, pass-front n s q rings h .0, inner, over-at p (q ++ (e .x ++ (e .y ++ v))) out t lp)
+      rw (after-laid, stage-here, drop-at p (q ++ rings) t lp, pass-front n s q rings h .0, inner, over-at out t p (q ++ (e .x ++ (e .y ++ v))) lp)
       (rw (length-passOut n s q, drop-append-le (4 * n) q (e .x ++ (e .y ++ v)) h) (simp append-assoc))
 
 -- one four, and then n, are n + 1 fours
@@ -144,8 +130,8 @@ module _ (at lx ly : ℕ) (cx cy : Cursors) (w : List Float) (fits : at + (lx + 
   length-passed n t h =
       let s = stageIn at lx ly cx cy w in
       let rings = bothRings (passEnd n s (drop t w)) in
-      let inner : length (over at rings w) ≡ length w = over-length at rings w (omega (arith, length-rings n (drop t w))) in
-      over-length t (passOut n s (drop t w)) (over at rings w) (omega (arith, length-passOut n s (drop t w))) ∙ inner
+      let inner : length (over at rings w) ≡ length w = over-length at w (lx + ly) rings (length-rings n (drop t w)) (omega arith) in
+      over-length t (over at rings w) (4 * n) (passOut n s (drop t w)) (length-passOut n s (drop t w)) (omega arith) ∙ inner
 
   -- no fours change nothing
   pub pass-none : (t : ℕ) → t ≤ at → passed 0 t at lx ly cx cy w ≡ w

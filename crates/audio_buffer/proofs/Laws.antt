@@ -13,7 +13,7 @@ use borrow.Author.Tests.{leb-true, ltb-true, eqb-true}
 use Rattle.samples.specs.declared.Answer.{Answer}
 use Rattle.samples.specs.declared.Answer.the-variants.{Accepted, BadLength, BadIndex}
 use Rattle.samples.proofs.Laws.{needed, split-and}
-use Rattle.samples.proofs.Turns.{row-ends}
+use Rattle.samples.proofs.Rows.{row-ends}
 use Rattle.audio_buffer.specs.Judges.{channelsOk, samplesOk, judgedThen, judgedTwo, judgedChannel}
 use Rattle.audio_buffer.specs.Layout.{column, columns, interleaved, deinterleaved}
 

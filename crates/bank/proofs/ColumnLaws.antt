@@ -1,22 +1,17 @@
 -- Rows that lie one after the other, by column: what stands in a column, and what a column put there leaves of each row. Assumes nothing.
 use mathlib.Core.Path.{_≡_, refl, ap, _∙_}
 use mathlib.Core.List.{List, [], _∷_}
-use Prim.Native.Nat.{ℕ, zero, suc, _+_, _*_, _<_, _≤_}
-use native.Mathlib.Nat.{suc-mul, add-comm, le-add-right}
+use Prim.Native.Nat.{ℕ, zero, suc, _+_, _*_, _<_}
+use native.Mathlib.Nat.{le-add-right}
 use native.Mathlib.Omega.{arith}
 use lib.Ieee.{Float, nan}
-use lib.ListN.{length, getD, take, drop, set, length-take, length-drop, length-set}
+use lib.ListN.{length, getD, take, drop, set, length-set}
 use lib.Seq.{drop-drop, take-set-le, take-set-lt, drop-set-lt, drop-set-add, getD-take, getD-drop}
 use Rattle.samples.specs.Lists.{row}
+use Rattle.samples.proofs.Rows.{next-row}
 use Rattle.lanes.specs.declared.four.Four.{Four}
 use Rattle.lanes.specs.Four.{at}
 use Rattle.bank.specs.Tile.{column, columnPut}
-
--- a row is as long as the rows are, where all n of them are there
-pub row-long : (f n k : ℕ) (rows : List Float) → k < n → n * f ≤ length rows → length (row f k rows) ≡ f
-row-long f (suc n) zero rows h e = simp length-take (omega (arith, suc-mul n f))
-row-long f (suc n) (suc k) rows h e =
-    row-long f n k (drop f rows) (omega arith) (simp length-drop (omega (arith, suc-mul n f)))
 
 -- ---- ys put one below the other, the first at b: each f further on than the one before
 
@@ -50,8 +45,7 @@ module _ (f : ℕ) where
     rest-all : (ys rows : List Float) → drop (length ys * f) (putAll f t ys rows) ≡ drop (length ys * f) rows
     rest-all [] rows = refl
     rest-all (y ∷ ys) rows =
-        let e : suc (length ys) * f ≡ f + length ys * f = suc-mul (length ys) f ∙ add-comm (length ys * f) f in
-        rw (e, ← drop-drop (length ys * f) f rows, ← drop-drop (length ys * f) f (putAll f t (y ∷ ys) rows), after-first y ys rows)
+        rw (next-row (length ys) f, ← drop-drop (length ys * f) f rows, ← drop-drop (length ys * f) f (putAll f t (y ∷ ys) rows), after-first y ys rows)
         (rest-all ys (drop f rows))
 
 -- ---- the column of four rows

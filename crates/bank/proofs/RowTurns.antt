@@ -3,13 +3,15 @@
 use mathlib.Core.Path.{_≡_, refl, sym, ap, _∙_}
 use mathlib.Core.List.{List, [], _∷_, _++_, append-assoc}
 use Prim.Native.Nat.{ℕ, zero, suc, _+_, _*_, _<_, _≤_}
-use native.Mathlib.Nat.{zero-mul, suc-mul, add-comm}
+use native.Mathlib.Nat.{zero-mul}
 use native.Mathlib.Omega.{arith}
 use lib.Ieee.{Float}
-use lib.ListN.{length, take, drop, length-take, length-drop, take-append-drop, drop-of-length-le}
+use lib.ListN.{length, take, drop, take-append-drop, drop-of-length-le}
 use lib.Seq.{drop-drop}
 use Rattle.samples.specs.Lists.{row}
-use Rattle.samples.proofs.Turns.{all-done, over-done, over-left}
+use Rattle.samples.proofs.Turns.{all-done}
+use Rattle.samples.proofs.Lists.{cut, part-long, over-done, over-left}
+use Rattle.samples.proofs.Rows.{next-row, row-long}
 use Rattle.iir.specs.declared.Bands.{Bands}
 use Rattle.iir.specs.Runs.{bandsOut, bandsEnd}
 use Rattle.iir.proofs.Laws.{bands-length, bands-append, bands-end-append}
@@ -17,7 +19,6 @@ use Rattle.lanes.specs.declared.bank.Bank.{Bank}
 use Rattle.lanes.specs.Bank.{bandsAt}
 use Rattle.bank.specs.Lines.{linesOut, linesEnd}
 use Rattle.bank.specs.Tile.{lined, Turned}
-use Rattle.bank.proofs.ColumnLaws.{row-long}
 
 -- ---- n rows, each the answer of its line, are the answer
 
@@ -33,8 +34,7 @@ module _ (f : ℕ) where
   unfolding linesOut
   lines-made zero b rows rows₀ h e = rw zero-mul at e
   lines-made (suc n) b rows rows₀ h e =
-      let s : suc n * f ≡ f + n * f = suc-mul n f ∙ add-comm (n * f) f in
-      let d : drop (n * f) (drop f rows) ≡ drop (n * f) (drop f rows₀) = rw (drop-drop, drop-drop, ← s) e in
+      let d : drop (n * f) (drop f rows) ≡ drop (n * f) (drop f rows₀) = rw (drop-drop, drop-drop, ← next-row n f) e in
       let rest = lines-made n (λ k. b (suc k)) (drop f rows) (drop f rows₀) (λ k g. h (suc k) (omega arith)) d in
       sym (take-append-drop f rows) ∙ rw (h 0 (omega arith), rest) refl
 
@@ -72,13 +72,11 @@ module _ (f : ℕ) (b : Bank) (rows₀ : List Float) where
             let xs = take m (drop t r) in
             let rest = drop (t + m) r in
             let bands = bandsAt k g in
-            let lr = row-long f 4 k rows hk (omega (arith, v .1, v .2)) in
-            let lx : length xs ≡ m = simp (length-take, length-drop) (omega (arith, lr)) in
+            let fits : t + m ≤ length r = omega (arith, row-long f 4 k rows hk (omega (arith, v .1, v .2))) in
+            let lx : length xs ≡ m = part-long t r m fits in
             let lo : length (bandsOut bands xs) ≡ m = bands-length bands xs ∙ lx in
-            let fits : t + m ≤ length r = omega (arith, lr) in
-            let cut : drop t r ≡ xs ++ rest = sym (take-append-drop m (drop t r)) ∙ ap (λ (l : List Float). xs ++ l) (drop-drop m t r) in
-            let out = ap (bandsOut bands) cut ∙ bands-append bands xs rest in
-            let end = ap (bandsEnd bands) cut ∙ bands-end-append bands xs rest in
+            let out = ap (bandsOut bands) (cut t r m) ∙ bands-append bands xs rest in
+            let end = ap (bandsEnd bands) (cut t r m) ∙ bands-end-append bands xs rest in
             let left = over-left t r m (bandsOut bands xs) lo fits in
             rw (e .0 k hk .0, e .0 k hk .1) (
               rw (over-done t r m (bandsOut bands xs) lo fits, left, append-assoc, ← out) (v .4 k hk .0),

@@ -1,16 +1,17 @@
 -- The loops over a tile's columns: what holds of each of the four lines as column j is reached, why it holds at the next, and what it says at
 -- the end. Assumes nothing.
 use mathlib.Core.Path.{_≡_, refl, sym, _∙_}
-use mathlib.Core.List.{List, [], _∷_, _++_, append-assoc}
-use Prim.Native.Nat.{ℕ, suc, _+_, _*_, _<_, _≤_}
-use native.Mathlib.Nat.{add-zero}
+use mathlib.Core.List.{List, _∷_, _++_}
+use Prim.Native.Nat.{ℕ, _+_, _*_, _<_, _≤_}
 use native.Mathlib.Numerals.{add-one}
 use native.Mathlib.Omega.{arith}
 use lib.Ieee.{Float, nan}
-use lib.ListN.{length, getD, take, drop, set, length-append, length-take, length-drop, take-append-drop, drop-of-length-le}
-use lib.Seq.{take-all, take-suc, take-suc-set, drop-cons, getD-take, getD-drop, set-at, length-take-le}
+use lib.ListN.{length, getD, take, drop, set, drop-of-length-le}
+use lib.Seq.{take-all, take-suc, take-suc-set, getD-take, getD-drop, length-take-le}
 use Rattle.samples.specs.Lists.{over, row}
 use Rattle.samples.proofs.Turns.{front, stored, all-done}
+use Rattle.samples.proofs.Lists.{part-long, over-stored}
+use Rattle.samples.proofs.Rows.{row-long}
 use Rattle.iir.specs.Runs.{bandsOut, bandsEnd}
 use Rattle.lanes.specs.declared.four.Four.{Four}
 use Rattle.lanes.specs.declared.bank.Bank.{Bank}
@@ -18,7 +19,7 @@ use Rattle.lanes.specs.Four.{at}
 use Rattle.lanes.specs.Bank.{bandsAt, stepBank}
 use Rattle.lanes.proofs.LaneLaws.{bank-out, bank-end}
 use Rattle.bank.specs.Tile.{column, columnPut, tileColumn, tilePut, strand, Filled, Stored, Played}
-use Rattle.bank.proofs.ColumnLaws.{row-long, column-at, put-length, row-put, rest-put}
+use Rattle.bank.proofs.ColumnLaws.{column-at, put-length, row-put, rest-put}
 use Rattle.bank.proofs.TileLaws.{strand-long, tile-at, strand-put, put-long}
 
 -- ---- the columns through the bands b
@@ -74,8 +75,8 @@ module _ (f t m : ℕ) (rows : List Float) (tile₀ : List Float) where
   Filling j tile = (j ≤ m) × (length tile ≡ length tile₀) × ((k : ℕ) → k < 4 → take j (strand k m tile) ≡ take j (part k))
 
   module _ (room : t + m ≤ f) (long : 4 * f ≤ length rows) (fits : 4 * m ≤ length tile₀) where
-    part-long : (k : ℕ) → k < 4 → length (part k) ≡ m
-    part-long k hk = simp (length-take, length-drop) (omega (arith, row-long f 4 k rows hk long))
+    whole : (k : ℕ) → k < 4 → length (part k) ≡ m
+    whole k hk = part-long t (row f k rows) m (omega (arith, row-long f 4 k rows hk long))
 
     pub one-filled : (j : ℕ) (tile last : List Float) → Filling j tile → j < m → last ≡ tilePut j (column f (t + j) rows) tile → Filling (j + 1) last
     one-filled j tile last v lt el = rw el (omega arith, put-long j x tile ∙ v .1, line)
@@ -87,33 +88,22 @@ module _ (f t m : ℕ) (rows : List Float) (tile₀ : List Float) where
         line k hk =
             let r = strand k m tile in
             let in-row : j < length r = omega (arith, strand-long k m tile) in
-            let in-part : j < length (part k) = omega (arith, part-long k hk) in
+            let in-part : j < length (part k) = omega (arith, whole k hk) in
             let same : at k x ≡ getD (part k) j nan =
             column-at f (t + j) (omega arith) rows k hk ∙ sym (getD-take m (drop t (row f k rows)) j nan lt ∙ getD-drop t (row f k rows) j nan) in
             rw (strand-put m j lt tile x (omega (arith, v .1)) k hk, add-one j, take-suc-set r j (at k x) in-row, take-suc (part k) j nan in-part, v .2 k hk, same) refl
 
     pub all-filled : (j : ℕ) (tile : List Float) → Filling j tile → m ≤ j → Filled f t m rows tile
     all-filled j tile v h k hk =
-        sym (take-all j (strand k m tile) (omega (arith, strand-long k m tile))) ∙ v .2 k hk ∙ take-all j (part k) (omega (arith, part-long k hk))
+        sym (take-all j (strand k m tile) (omega (arith, strand-long k m tile))) ∙ v .2 k hk ∙ take-all j (part k) (omega (arith, whole k hk))
 
 -- ---- and back
 
--- no element over xs, and one more of ys
-pub over-none : {A : Type 0} (t : ℕ) (xs : List A) → xs ≡ over t [] xs
-unfolding over
-over-none t xs = rw add-zero (sym (take-append-drop t xs))
-
+-- one more of ys over xs
 over-more : {A : Type 0} (t j : ℕ) (ys xs : List A) (z : A) → j < length ys → t + j < length xs
     → set (over t (take j ys) xs) (t + j) (getD ys j z) ≡ over t (take (j + 1) ys) xs
-unfolding over
 over-more t j ys xs z hj hx =
-    let done = take t xs ++ take j ys in
-    let before : length done ≡ t + j = simp (length-append, length-take) (omega arith) in
-    let l : length (take j ys) ≡ j = length-take-le j ys (omega arith) in
-    let l′ : length (take (j + 1) ys) ≡ j + 1 = length-take-le (j + 1) ys (omega arith) in
-    let on : t + (j + 1) ≡ suc (t + j) = omega arith in
-    rw (l, l′, on, ← append-assoc (take t xs) (take j ys) (drop (t + j) xs), drop-cons xs (t + j) z hx, set-at done (getD xs (t + j) z) (drop (suc (t + j)) xs) (getD ys j z) (t + j) before)
-    (rw (add-one j, take-suc ys j z hj, append-assoc, append-assoc) refl)
+    rw (add-one j, take-suc ys j z hj) (over-stored t xs j (take j ys) (length-take-le j ys (omega arith)) (omega arith) (getD ys j z) hx)
 
 module _ (f t m : ℕ) (tile rows₀ : List Float) where
   abbrev pub Storing : ℕ → List Float → Type 0

@@ -6,11 +6,10 @@ use native.Mathlib.Nat.{add-zero}
 use lib.Ieee.{Float, nan}
 use lib.ListN.{length, getD, take, drop, set}
 use lib.Seq.{drop-drop, getD-drop}
-use Rattle.samples.proofs.Turns.{stored}
+use Rattle.samples.proofs.Turns.{more, stored}
 use Rattle.iir.specs.declared.Filter.{Filter}
 use Rattle.iir.specs.Step.{fromCoefficients}
 use Rattle.frame.specs.Lines.{noFilter, filtersOf}
-use Rattle.rows.proofs.RowsLeft.{more}
 
 -- the filters so far, then those of the coefficients from k on
 pub filters-turn : (n i k : ℕ) (cs : List Float) (fs X : List Filter) (g : Filter) → i < n → i < length fs

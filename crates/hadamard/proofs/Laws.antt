@@ -16,7 +16,7 @@ use Rattle.samples.specs.declared.Answer.the-variants.{Accepted, BadLength}
 use Rattle.samples.proofs.Laws.{needed, split-and}
 use Rattle.hadamard.specs.Mix.{mixAt, mixed, judgedSample}
 use Rattle.hadamard.specs.Rows.{column, mixedRow, mixedRows, judgedRows, rowsMixed}
-use Rattle.hadamard.proofs.Overs.{joined-ext, joined-length, each-length, each-at}
+use Rattle.hadamard.proofs.Joined.{joined-ext, joined-length, each-length, each-at}
 use Rattle.hadamard.proofs.Columns.{column-ext, one-column}
 
 -- ---- lengths

@@ -1,4 +1,4 @@
-pub mod Overs
+pub mod Joined
 pub mod Columns
 pub mod Laws
 pub mod Examples

@@ -5,7 +5,7 @@ use mathlib.Core.List.{List, _++_, append-assoc}
 use Prim.Native.Nat.{ℕ, _+_, _*_, _-_, _<_}
 use native.Mathlib.Omega.{arith}
 use lib.Ieee.{Float}
-use lib.ListN.{length, getD, take, drop, length-append, length-take, length-drop}
+use lib.ListN.{length, getD, take, drop, length-append}
 use lib.Seq.{length-take-le}
 use borrow.Rule.Slice.PartMut.{putMid}
 use Rattle.samples.specs.declared.Answer.{Answer}
@@ -14,6 +14,7 @@ use Rattle.samples.specs.Answers.{accept, need}
 use Rattle.samples.specs.Sizes.{rateOk, frameOk}
 use Rattle.samples.proofs.Laws.{split-and, join-and, needed}
 use Rattle.samples.proofs.Turns.{middle}
+use Rattle.samples.proofs.Lists.{part-long}
 use Rattle.hadamard.specs.Rows.{judgedRows, rowsMixed, mixedRows}
 use Rattle.hadamard.proofs.Laws.{rows-accepted, rows-joined}
 use Rattle.delay.specs.Calls.{both}
@@ -51,10 +52,10 @@ module _ (f : ℕ) (w : List Float) (h : WorkFits wall f (length w)) where
   rest = take f (drop (f + k + k) w) ++ drop (f + k + k + f) w
 
   length-reads : length reads ≡ k
-  length-reads = simp (length-take, length-drop) (omega (arith, h .work-is))
+  length-reads = part-long f w k (omega (arith, h .work-is))
 
   length-mixed : length mixed ≡ k
-  length-mixed = simp (length-take, length-drop) (omega (arith, h .work-is))
+  length-mixed = part-long (f + k) w k (omega (arith, h .work-is))
 
   -- the mix is lent the rows read and mixed
   pub mix-laid : (x : List Float) (a : Answer)

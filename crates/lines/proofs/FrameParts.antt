@@ -7,6 +7,7 @@ use native.Mathlib.Omega.{arith}
 use lib.Ieee.{Float}
 use lib.ListN.{length, take, drop, replicate, drop-of-length-le}
 use Rattle.samples.specs.Binary32.{+0}
+use Rattle.samples.proofs.Lists.{drop-two}
 use lib.Seq.{take-at, drop-at, drop-drop, length-take-le}
 use Rattle.search.specs.Search.{allFinite}
 use Rattle.search.proofs.Finite.{finite-append}
@@ -26,10 +27,7 @@ module _ (f m : ℕ) (input : List Float) (r : Frame) (w : List Float) (e : w �
   pub from-put : drop (f + m) w ≡ r .lines .put ++ (r .output .out ++ r .output .rings)
   unfolding framed
   from-put =
-      ap (drop (f + m)) e
-      ∙ sym (drop-drop m f (input ++ (r .reads ++ (r .lines .put ++ (r .output .out ++ r .output .rings)))))
-      ∙ ap (drop m) (drop-at input (r .reads ++ (r .lines .put ++ (r .output .out ++ r .output .rings))) f li)
-      ∙ drop-at (r .reads) (r .lines .put ++ (r .output .out ++ r .output .rings)) m lr
+      ap (drop (f + m)) e ∙ drop-two input (r .reads) (r .lines .put ++ (r .output .out ++ r .output .rings)) (f + m) (omega (arith, li, lr))
 
   pub the-put : take m (drop (f + m) w) ≡ r .lines .put
   the-put = ap (take m) from-put ∙ take-at (r .lines .put) (r .output .out ++ r .output .rings) m lp

@@ -2,7 +2,6 @@ pub mod LineLaws
 pub mod LineTurns
 pub mod LineFills
 pub mod RowJoins
-pub mod Parts
 pub mod FrameParts
 pub mod Room
 pub mod RowsOf

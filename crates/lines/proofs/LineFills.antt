@@ -6,7 +6,7 @@ use native.Mathlib.Nat.{add-zero, zero-add, not-suc-le-zero}
 use native.Mathlib.Omega.{arith}
 use lib.ListN.{length, getD, take, drop, set, length-set, take-append-drop}
 use lib.Seq.{drop-drop, drop-set-lt}
-use Rattle.samples.proofs.Turns.{next, stored}
+use Rattle.samples.proofs.Turns.{more, next, stored}
 use Rattle.delay.specs.declared.Cursors.{Cursors}
 use Rattle.delay.specs.Calls.{both}
 use Rattle.primes.specs.Table.{delayAt}
@@ -15,7 +15,6 @@ use Rattle.unit.specs.Sizes.{lengthsFrom, total, storeLen}
 use Rattle.unit.proofs.Laws.{store-is}
 use Rattle.frame.specs.Settle.{movedBy, allMoved}
 use Rattle.lines.specs.Work.{Within}
-use Rattle.rows.proofs.RowsLeft.{more}
 
 -- ---- the cursors moved: those of the rings from i on are as they were
 

@@ -9,7 +9,8 @@ use Rattle.delay.specs.declared.Cursors.{Cursors}
 use Rattle.delay.specs.Calls.{both}
 use Rattle.delay.proofs.Laws.{Moves}
 use Rattle.frame.proofs.RowLaws.{Held}
-use Rattle.rows.proofs.RowsLeft.{more, Left, row-fits}
+use Rattle.samples.proofs.Turns.{more}
+use Rattle.samples.proofs.Rows.{Left, row-fits}
 use Rattle.lines.specs.Work.{Rings, Within}
 
 -- ---- the rings of n lines

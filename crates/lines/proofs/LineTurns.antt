@@ -9,7 +9,9 @@ use lib.Ieee.{Float}
 use lib.ListN.{length, getD, take, drop, length-append, length-drop, take-append-drop}
 use lib.Seq.{take-at, drop-drop}
 use borrow.Rule.Slice.PartMut.{putMid}
-use Rattle.samples.proofs.Turns.{all-done, lent, over-done, over-left}
+use Rattle.samples.proofs.Turns.{more, all-done, lent}
+use Rattle.samples.proofs.Lists.{lent-long, to-end, come-back, over-length, over-done, over-left}
+use Rattle.samples.proofs.Rows.{Left, row-fits, row-done, none-left}
 use Rattle.delay.specs.declared.Cursors.{Cursors}
 use Rattle.delay.specs.Calls.{both, getOut, putRing}
 use Rattle.delay.specs.Ring.{read, write}
@@ -20,8 +22,6 @@ use Rattle.frame.specs.Settle.{putRows}
 use Rattle.frame.specs.Steps.{copied}
 use Rattle.frame.proofs.RowLaws.{total-more, copied-all, put-rings, length-putRows}
 use Rattle.lines.specs.Work.{Rings}
-use Rattle.rows.proofs.Stretches.{to-end, lent-long, come-back, kept-long}
-use Rattle.rows.proofs.RowsLeft.{more, Left, row-fits, row-done, none-left}
 use Rattle.lines.proofs.LineLaws.{lines-held, here, moves}
 
 -- ---- a frame read of each line: a is where line i's ring begins, b where its row does
@@ -80,7 +80,7 @@ module _ (n f : ℕ) (ls : List ℕ) (cs : List Cursors) (some : 0 < f) (store r
       let long : length last ≡ f = ap length got ∙ length-read ring (c .read .0) f (rw (ring-long h (v .2) room) (g .0)) in
       rw (come-back b rows f last long) (
         row-done n f i b len (v .0) h,
-        kept-long b rows f last long room ∙ v .1,
+        over-length b rows f last long room ∙ v .1,
         g .5,
         rw (over-done b rows f last long room, got, lent a l store, append-assoc) (rw (more n i h, drop-drop l a store) at (v .3)),
       )
@@ -100,7 +100,7 @@ module _ (n f : ℕ) (ls : List ℕ) (cs : List Cursors) (some : 0 < f) (store r
       let got : last ≡ write ring (c .write .0) row = q ∙ put-ok ring row c m .1 in
       let long : length last ≡ l = ap length got ∙ length-write ring row (c .write .0) (m .fits) ∙ lent-long a store l (g .4) in
       let e = rw (more n i h, kept-next ls (n - (i + 1)) i a store, drop-drop f b rows, drop-drop l a store) at (v .3) in
-      let same = kept-long a store l last long (g .4) in
+      let same = over-length a store l last long (g .4) in
       rw (come-back a store l last long, same) (
         row-done n f i b (length rows) (v .0) h,
         v .1,

@@ -11,6 +11,7 @@ use lib.Seq.{take-at, take-take, take-add, getD-drop, getD-append-add, drop-at, 
 use borrow.Rule.Slice.PartMut.{putMid}
 use Rattle.samples.specs.Lists.{over}
 use Rattle.samples.proofs.Turns.{back}
+use Rattle.samples.proofs.Lists.{drop-two, part-long, lent-long, first-part, last-part, to-end, over-at}
 use Rattle.delay.specs.declared.Cursors.{Cursors}
 use Rattle.unit.specs.Sizes.{total}
 use Rattle.iir.specs.declared.Filter.{Filter}
@@ -21,9 +22,8 @@ use Rattle.frame.proofs.RowLaws.{copied-all}
 use Rattle.frame.proofs.FrameLaws.{put-beside}
 use Rattle.rows.specs.Fits.{outputFits}
 use Rattle.rows.specs.Steps.{linesEnds, linesLaid}
-use Rattle.rows.proofs.Stretches.{to-end, lent-long}
 use Rattle.rows.proofs.RowFits.{lines-yes, output-yes}
-use Rattle.rows.proofs.RowJoins.{first-part, last-part, filters-long}
+use Rattle.rows.proofs.RowJoins.{filters-long}
 use Rattle.outputs.specs.Steps.{outputFrom, outputMade, outputAfter}
 use Rattle.lines.specs.Work.{FrameFits, frameBy, framed}
 
@@ -37,11 +37,8 @@ module _ (n : ℕ) (lines fs : List Filter) (l : length lines ≡ 3 * n) where
   later j = rw (← l) (getD-append-add lines (drop (length lines) fs) j noFilter ∙ getD-drop (length lines) fs j noFilter)
 
   filters-join : (tone : List Filter) → length tone ≡ 3 → over (3 * n) tone between ≡ (lines ++ tone) ++ drop (3 * n + 3) fs
-  unfolding over
   filters-join tone e =
-      let k = 3 * n in
-      let rest : drop (k + 3) between ≡ drop (k + 3) fs = rw (← drop-drop 3 k between, drop-at lines (drop k fs) k l) (drop-drop 3 k fs) in
-      rw (e, take-at lines (drop k fs) k l, rest) (sym (append-assoc lines tone (drop (k + 3) fs)))
+      over-at tone (3 * n) lines (drop (3 * n) fs) l ∙ rw (e, drop-drop 3 (3 * n) fs) (sym (append-assoc lines tone (drop (3 * n + 3) fs)))
 
   module _ (f : ℕ) (d : Float) (ps : List ℕ) (qs : List Cursors) where
     output-same : (rings reads : List Float) → outputRow n f d ps qs between rings reads ≡ outputRow n f d ps qs fs rings reads
@@ -68,7 +65,7 @@ module _ (n : ℕ) (lines fs : List Filter) (l : length lines ≡ 3 * n) where
         let q = last-part f input rows w ew li in
         let read : take m rows ≡ reads = rw append-assoc (take-at reads (put ++ (old ++ rings)) m lr) in
         let two : take (m + m) rows ≡ reads ++ put = take-at (reads ++ put) (old ++ rings) (m + m) l₂ in
-        let left : drop (m + m + f) rows ≡ rings = rw (← drop-drop f (m + m) rows, drop-at (reads ++ put) (old ++ rings) (m + m) l₂) (drop-at old rings f lo) in
+        let left : drop (m + m + f) rows ≡ rings = drop-two (reads ++ put) old rings (m + m + f) (omega (arith, l₂, lo)) in
         let same = output-same rings reads in (
           e .0 ∙ rw (q .0, read, left, eg, same) (filters-join (r .filters) (tone-long rings reads)),
           q .1 x ∙ rw (e .1, q .0, read, two, left, eg, same, append-assoc) refl,
@@ -145,7 +142,7 @@ frame-join n f k d tail ls cs ps qs fs gs hs store work x x₁ x₂ fits e₀ ke
     let lw = fits .work-is in
     let li : length input ≡ f = length-take-le f work (omega arith) in
     let la : length (take at work) ≡ at = length-take-le at work (omega arith) in
-    let lo : length old ≡ f = simp (length-take, length-drop) (omega arith) in
+    let lo : length old ≡ f = part-long at work f (omega arith) in
     let lp = put-beside n f k fs input reads tail li in
     let begun = copy-join t (at + f) store work x (omega (arith, fits .store-is)) (omega (arith, fits .store-is)) e₀ in
     let q = first-part at (take at work) (old ++ rings) _ (begun ∙ rw (take-add at f work, append-assoc) refl) la in

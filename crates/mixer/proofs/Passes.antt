@@ -12,12 +12,12 @@ use lib.Seq.{getD-drop, set-getD}
 use lib.Ieee.{Float, nan}
 use Rattle.samples.specs.Binary32.{_⊗_}
 use Rattle.samples.specs.Lists.{over}
-use Rattle.samples.proofs.Turns.{over-length, row-ends}
+use Rattle.samples.proofs.Lists.{over-none, over-length, over-again, over-next, over-stored, before-at, inside-at, after-at}
+use Rattle.samples.proofs.Rows.{row-ends}
 use Rattle.hadamard.specs.Mix.{minus, plusMinus, sumFrom, mixAt, joined, each}
 use Rattle.hadamard.specs.Rows.{column, mixedRow}
 use Rattle.mixer.specs.Passes.{laid, pass, summed, rowSum, mixedAt}
-use Rattle.hadamard.proofs.Overs.{joined-ext, joined-length, each-length, each-at}
-use Rattle.hadamard.proofs.Overs.{before-at, inside-at, after-at, over-again, over-next, over-none, over-one}
+use Rattle.hadamard.proofs.Joined.{joined-ext, joined-length, each-length, each-at}
 use Rattle.hadamard.proofs.Columns.{sum-more, column-length, column-more, column-ext}
 use Rattle.hadamard.proofs.Laws.{row-length, row-ext}
 
@@ -32,42 +32,34 @@ unfolding laid
 laid-ext d f g h w e = ap (λ (l : List Float). over d l w) (joined-ext f _ _ (λ t l. ap (λ (x : Float). x ∷ []) (e t l)))
 
 module _ (d f : ℕ) (g : ℕ → Float) (w : List Float) (fits : d + f ≤ length w) where
-  room : d + length (each f g) ≤ length w
-  room = rw each-length fits
-
   -- what stands before the row, in it, and after it
   pub laid-before : (k : ℕ) → k < d → getD (laid d f g w) k nan ≡ getD w k nan
   unfolding laid
-  laid-before k h = before-at d (each f g) w room k nan h
+  laid-before k h = before-at d w f (each f g) (each-length f g) fits k nan h
 
   pub laid-at : (t : ℕ) → t < f → getD (laid d f g w) (d + t) nan ≡ g t
   unfolding laid
-  laid-at t h = inside-at d (each f g) w room t nan (rw each-length h) ∙ each-at f g t nan h
+  laid-at t h = inside-at d w f (each f g) (each-length f g) fits t nan h ∙ each-at f g t nan h
 
   pub laid-after : (k : ℕ) → d + f ≤ k → getD (laid d f g w) k nan ≡ getD w k nan
   unfolding laid
-  laid-after k h = after-at d (each f g) w room k nan (rw each-length h)
+  laid-after k h = after-at d w f (each f g) (each-length f g) fits k nan h
 
   pub laid-length : length (laid d f g w) ≡ length w
   unfolding laid
-  laid-length = over-length d (each f g) w room
+  laid-length = over-length d w f (each f g) (each-length f g) fits
 
   -- a second pass over the row
   pub laid-again : {w1 w2 : List Float} (h k : ℕ → Float) → w1 ≡ laid d f g w → w2 ≡ laid d f h w1 → ((t : ℕ) → t < f → h t ≡ k t)
       → w2 ≡ laid d f k w
   unfolding laid
-  laid-again h k e1 e2 e =
-      e2 ∙ rw e1 (over-again d (each f g) w room (each f h) (each-length f h ∙ sym (each-length f g))) ∙ laid-ext d f h k w e
+  laid-again h k e1 e2 e = e2 ∙ rw e1 (over-again d w f (each f g) (each-length f g) fits (each f h) (each-length f h)) ∙ laid-ext d f h k w e
 
 -- ---- a turn of a pass: the sample at t is stored
 
 pub stored : (d t : ℕ) (g : ℕ → Float) (w₀ : List Float) → d + t < length w₀ → set (laid d t g w₀) (d + t) (g t) ≡ laid d (t + 1) g w₀
 unfolding laid
-stored d t g w₀ fits =
-    let long = each-length t g in
-    let room : d + length (each t g) ≤ length w₀ = omega arith in
-    let here : d + t < length (over d (each t g) w₀) = rw (over-length d (each t g) w₀ room) fits in
-    rw add-one (over-one (d + t) (g t) (over d (each t g) w₀) here ∙ (rw long at (over-next d (each t g) w₀ room (g t ∷ []))))
+stored d t g w₀ fits = rw add-one (over-stored d w₀ t (each t g) (each-length t g) (omega arith) (g t) fits)
 
 pub pass-none : (op : Float → Float → Float) (d s : ℕ) (w : List Float) → w ≡ pass op d s 0 w
 unfolding pass
@@ -168,7 +160,6 @@ unfolding mixedAt
 rows-more n f r d k w₀ w w′ fits h place e e′ =
     let p = joined r (mixedRow n f k w₀) in
     let long : length p ≡ r * f = joined-length r f (mixedRow n f k w₀) (row-length n f k w₀) in
-    let room : n * f + length p ≤ length w₀ = omega (arith, row-ends r n f h) in
-    let here : d ≡ n * f + length p = omega arith in
-    let row = row-ext n f k w w₀ (λ i l. rw e (before-at (n * f) p w₀ room i nan l)) r in
-    e′ ∙ rw (row, here, e, add-one) (over-next (n * f) p w₀ room (mixedRow n f k w₀ r))
+    let room : n * f + r * f ≤ length w₀ = omega (arith, row-ends r n f h) in
+    let row = row-ext n f k w w₀ (λ i l. rw e (before-at (n * f) w₀ (r * f) p long room i nan l)) r in
+    e′ ∙ rw (row, place, e, add-one) (over-next (n * f) w₀ (r * f) p long room (mixedRow n f k w₀ r))

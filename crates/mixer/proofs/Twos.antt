@@ -12,11 +12,11 @@ use lib.Seq.{getD-drop, getD-set-other, drop-drop}
 use lib.Ieee.{Float, nan}
 use Rattle.samples.specs.Binary32.{_⊗_}
 use Rattle.samples.specs.Lists.{over}
-use Rattle.samples.proofs.Turns.{row-ends}
+use Rattle.samples.proofs.Lists.{over-set}
+use Rattle.samples.proofs.Rows.{row-ends}
 use Rattle.hadamard.specs.Mix.{minus, plusMinus, sumFrom, sumOf, mixAt, joined, each}
 use Rattle.hadamard.specs.Rows.{column, mixedRow}
 use Rattle.mixer.specs.Passes.{laid, laidTwo, pass, crossed, summed, summedTwo, rowSum, mixedAt}
-use Rattle.hadamard.proofs.Overs.{over-set}
 use Rattle.hadamard.proofs.Columns.{column-ext}
 use Rattle.hadamard.proofs.Laws.{row-ext}
 use Rattle.mixer.proofs.Passes.{laid-none, laid-ext, laid-before, laid-at, laid-after, laid-length, laid-again, stored, summed-none, summed-next, rows-more}
@@ -26,7 +26,7 @@ use Rattle.mixer.proofs.Signs.{same-right, same-down, other}
 
 laid-set : (e f : ℕ) (h : ℕ → Float) (w : List Float) (i : ℕ) (x : Float) → i < e → e ≤ length w → set (laid e f h w) i x ≡ laid e f h (set w i x)
 unfolding laid
-laid-set e f h w i x l fits = over-set e (each f h) i x w l fits
+laid-set e f h w i x l fits = over-set e w (each f h) fits i x l
 
 laid-swap : (d e f k : ℕ) (g h : ℕ → Float) (w : List Float) → d + f ≤ e → e + k ≤ length w → laid d f g (laid e k h w) ≡ laid e k h (laid d f g w)
 laid-swap d e zero k g h w apart fits = sym (laid-none d g (laid e k h w)) ∙ ap (laid e k h) (laid-none d g w)

@@ -4,12 +4,13 @@ use mathlib.Core.List.{List, [], _++_, append-nil, append-assoc}
 use Prim.Native.Nat.{ℕ, suc, _+_, _*_, _-_, _/_, _%_, _≤_}
 use native.Mathlib.Omega.{arith}
 use lib.Ieee.{Float}
-use lib.ListN.{length, getD, take, drop, replicate, length-append, length-take, length-drop, take-append-drop}
-use lib.Seq.{take-at, take-take, drop-at, drop-drop, take-all, drop-length, length-take-le}
+use lib.ListN.{length, getD, take, drop, replicate, length-append, length-drop, take-append-drop}
+use lib.Seq.{take-at, take-take, drop-at, take-all, drop-length, length-take-le}
 use borrow.Rule.Slice.PartMut.{putMid}
 use Rattle.samples.specs.Binary32.{+0}
 use Rattle.samples.specs.Lists.{over}
 use Rattle.samples.proofs.Turns.{middle}
+use Rattle.samples.proofs.Lists.{cut, part-long, last-part, first-of}
 use Rattle.delay.specs.declared.Cursors.{Cursors}
 use Rattle.delay.specs.Calls.{both}
 use Rattle.unit.specs.Sizes.{total}
@@ -21,7 +22,7 @@ use Rattle.allpass.specs.Passes.{Stage, passOut, passEnd}
 use Rattle.allpass.specs.Stages.{staged}
 use Rattle.frame.specs.Steps.{divided}
 use Rattle.allpass.proofs.Stages.{length-passOut, pass-rings, staged-laid}
-use Rattle.rows.proofs.RowJoins.{last-part, first-of, total-next, total-front}
+use Rattle.rows.proofs.RowJoins.{total-next, total-front}
 
 -- ---- the sum of the rows read, after all rows, divided
 
@@ -44,13 +45,11 @@ two-fit ps = omega (arith, total-next 0 ps, total-next 1 ps, total-front 2 ps)
 module _ (ps : List ℕ) (rings : List Float) (l : length rings ≡ total ps) where
   stretch-long : (k : ℕ) → length (stretch ps k rings) ≡ getD ps k 0
   unfolding stretch
-  stretch-long k = simp (length-take, length-drop) (omega (arith, total-next k ps, total-front (suc k) ps))
+  stretch-long k = part-long (total (take k ps)) rings (getD ps k 0) (omega (arith, total-next k ps, total-front (suc k) ps))
 
   stretch-next : (k : ℕ) → stretch ps k rings ++ drop (total (take (suc k) ps)) rings ≡ drop (total (take k ps)) rings
   unfolding stretch
-  stretch-next k =
-      let t = total (take k ps) in
-      rw (total-next k ps, ← drop-drop (getD ps k 0) t rings) (take-append-drop (getD ps k 0) (drop t rings))
+  stretch-next k = rw (total-next k ps) (sym (cut (total (take k ps)) rings (getD ps k 0)))
 
   four-stretches : length ps ≡ 4 → stretch ps 0 rings ++ (stretch ps 1 rings ++ (stretch ps 2 rings ++ stretch ps 3 rings)) ≡ rings
   unfolding total

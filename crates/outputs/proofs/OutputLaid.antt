@@ -9,13 +9,13 @@ use lib.ListN.{length, take, drop}
 use lib.Seq.{drop-drop, take-add}
 use borrow.Rule.Slice.PartMut.{putMid}
 use Rattle.samples.specs.Lists.{over}
+use Rattle.samples.proofs.Lists.{to-end}
 use Rattle.delay.specs.declared.Cursors.{Cursors}
 use Rattle.iir.specs.declared.Filter.{Filter}
 use Rattle.unit.specs.Model.{wall}
 use Rattle.frame.specs.Frame.{outputRow}
 use Rattle.rows.specs.Fits.{WorkFits}
 use Rattle.rows.specs.Rows.{rowsOf, joined}
-use Rattle.rows.proofs.Stretches.{to-end}
 use Rattle.outputs.specs.Parts.{outputLaid, outputEnds}
 
 module _ (f : ℕ) (w : List Float) where

@@ -9,10 +9,11 @@ use lib.ListN.{length, take, drop, replicate, length-append, length-take, length
 use lib.Seq.{take-at, drop-at, drop-drop, take-all, take-take, length-take-le}
 use borrow.Rule.Slice.PartMut.{putMid}
 use Rattle.samples.specs.Binary32.{+0}
+use Rattle.samples.proofs.Turns.{more}
+use Rattle.samples.proofs.Lists.{in-front, to-end, over-last}
+use Rattle.samples.proofs.Rows.{Left, all-left, row-fits, row-done}
 use Rattle.frame.specs.Lines.{plus, sumRows}
 use Rattle.frame.specs.Steps.{addedFirst}
-use Rattle.rows.proofs.Stretches.{over-last, to-end, in-front}
-use Rattle.rows.proofs.RowsLeft.{more, Left, all-left, row-fits, row-done}
 use Rattle.rows.proofs.SumTurns.{sum, sum-long, added-in}
 
 -- ---- the rows read summed into the last row, at `at`: b is where row i begins, and `front` is all before the sum
@@ -41,7 +42,7 @@ module _ (n f at : ℕ) (front X : List Float) (h : n * f ≤ at) where
         let row = sum b at f rows before g in
         let long = sum-long b at f rows before g in
         let first : length (take at rows) ≡ at = length-take-le at rows (omega arith) in
-        let read : take f (drop b reads) ≡ take f (drop b rows) = rw (← v .2, take-take (n * f) at rows h) (in-front b rows f (n * f) fits (omega arith)) in
+        let read : take f (drop b reads) ≡ take f (drop b rows) = rw (← v .2, take-take (n * f) at rows h) (in-front b rows f (n * f) fits) in
         let here : take f (drop at rows) ≡ drop at rows = take-all f (drop at rows) (simp length-drop (omega (arith, v .1))) in
         let ex = rw (more n i hi, sum-more f (n - (i + 1)) (drop at rows) (drop b reads), read, drop-drop f b reads) at (v .3) in
         rw (v .1, added-in b at f rows before g last (rw (v .1) at q), over-last at rows row (omega (arith, v .1, long))) (

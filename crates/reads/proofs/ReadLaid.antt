@@ -7,14 +7,16 @@ use native.Mathlib.Nat.{zero-add, add-zero}
 use native.Mathlib.Numerals.{add-one}
 use native.Mathlib.Omega.{arith}
 use lib.Ieee.{Float}
-use lib.ListN.{length, getD, take, drop, length-drop}
-use lib.Seq.{drop-drop, length-take-le}
+use lib.ListN.{length, getD, take, drop}
+use lib.Seq.{drop-drop}
 use lib.Dec.{ltb, eqb}
 use borrow.Author.Tests.{ltb-true, eqb-true}
 use borrow.Rule.Slice.PartMut.{putMid}
 use Rattle.samples.specs.Lists.{row}
 use Rattle.samples.proofs.Laws.{split-and}
 use Rattle.samples.proofs.Turns.{lent}
+use Rattle.samples.proofs.Lists.{part-long, lent-long, come-back}
+use Rattle.samples.proofs.Rows.{row-ends}
 use Rattle.delay.specs.declared.Cursors.{Cursors}
 use Rattle.delay.specs.Calls.{both, getOut}
 use Rattle.delay.specs.Ring.{read}
@@ -27,8 +29,6 @@ use Rattle.unit.specs.Range.{linesOk}
 use Rattle.frame.proofs.RowLaws.{total-more}
 use Rattle.rows.specs.Fits.{workFor, WorkFits}
 use Rattle.rows.specs.Rows.{rowsOf}
-use Rattle.rows.proofs.Stretches.{come-back, lent-long}
-use Rattle.rows.proofs.RowFits.{row-in}
 use Rattle.rows.proofs.RowJoins.{total-next, total-front}
 use Rattle.rows.proofs.RowsOf.{work-fits}
 use Rattle.rows.proofs.LineLaid.{read-set, read-at}
@@ -81,7 +81,7 @@ module _ (f i : ℕ) (store w : List Float) (h : i < 16) (ls : length store ≡ 
 
   -- and its row within the work memory
   pub row-within : f + i * f + f ≤ length w
-  row-within = omega (arith, row-in i f h, fits .work-is)
+  row-within = omega (arith, row-ends i 16 f h, fits .work-is)
 
   pub read-laid : (c : Cursors) (a d : ℕ) (x : List Float) → a ≡ start → d ≡ delayAt i
       → let b = f + i * f in
@@ -108,8 +108,8 @@ module _ (f i : ℕ) (store w : List Float) (h : i < 16) (ls : length store ≡ 
       let row′ = row f i (take (16 * f) (drop f w)) in
       let within = cursors-at (λ j. delayAt j + f) cs all i (omega (arith, fits .some)) in
       let ring : ringAt (lineLengths wall f) 0 i store ≡ take l (drop start store) = ring-at (lineLengths wall f) i store ∙ rw (line-long f i h) refl in
-      let lr : length (ringAt (lineLengths wall f) 0 i store) ≡ l = ap length ring ∙ length-take-le l (drop start store) (rw length-drop (omega (arith, ring-within))) in
-      let lo : length row′ ≡ f = ap length (sym (read-at f i w h fits)) ∙ length-take-le f (drop (f + i * f) w) (rw length-drop (omega (arith, row-within))) in
+      let lr : length (ringAt (lineLengths wall f) 0 i store) ≡ l = ap length ring ∙ part-long start store l ring-within in
+      let lo : length row′ ≡ f = ap length (sym (read-at f i w h fits)) ∙ part-long (f + i * f) w f row-within in
       let m : Moves l c f = record {
         ready = record { some = omega (arith, fits .some); small = omega (arith, delay-range i .1, fits .short); reads = within .read; writes = within .write };
         some = fits .some;

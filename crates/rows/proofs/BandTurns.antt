@@ -3,15 +3,17 @@
 use mathlib.Core.Path.{_≡_, refl, sym, ap, _∙_}
 use mathlib.Core.List.{List, [], _∷_, _++_, append-nil, append-assoc}
 use Prim.Native.Nat.{ℕ, zero, suc, _+_, _*_, _-_, _/_, _<_, _≤_}
-use native.Mathlib.Nat.{zero-add, suc-add, add-zero, zero-mul, one-mul, sub-zero, le-add-right}
+use native.Mathlib.Nat.{zero-add, add-zero, zero-mul, one-mul, sub-zero, le-add-right}
 use native.Mathlib.Numerals.{add-one}
 use native.Mathlib.Omega.{arith}
 use lib.Ieee.{Float}
 use lib.ListN.{length, getD, take, drop, set, length-append, length-drop, take-append-drop, drop-of-length-le}
-use lib.Seq.{take-nil, drop-nil, take-all, take-take, drop-drop, sets-eq, getD-drop, length-take-le}
+use lib.Seq.{take-all, take-take, drop-drop, sets-eq, getD-drop, length-take-le}
 use borrow.Rule.Slice.PartMut.{putMid}
 use Rattle.samples.specs.Lists.{over}
-use Rattle.samples.proofs.Turns.{lent, over-done, over-left}
+use Rattle.samples.proofs.Turns.{lent}
+use Rattle.samples.proofs.Lists.{drop-take, part-long, lent-long, come-back, over-length, over-done, over-left, over-next}
+use Rattle.samples.proofs.Rows.{next-row, Left, all-left, rows-fit, rows-done, row-fits}
 use Rattle.iir.specs.declared.Filter.{Filter}
 use Rattle.iir.specs.declared.Bands.{Bands}
 use Rattle.iir.specs.Runs.{bandsOut, bandsEnd}
@@ -21,9 +23,6 @@ use Rattle.bank.specs.Lines.{lines, linesOut, linesEnd}
 use Rattle.frame.specs.Lines.{noFilter, bandRows, bandEnds, three, threeOf}
 use Rattle.frame.proofs.RowLaws.{byBands, peel, length-bandEnds}
 use Rattle.rows.specs.Groups.{fourFrom, inOrder}
-use Rattle.rows.proofs.RowAt.{next-row}
-use Rattle.rows.proofs.Stretches.{lent-long, come-back, kept-long}
-use Rattle.rows.proofs.RowsLeft.{Left, all-left, rows-fit, rows-done, row-fits}
 
 -- ---- filters stored from k on
 
@@ -34,20 +33,6 @@ three-set k b fs h =
     let two : k + 2 ≡ suc (suc k) = omega arith in
     rw (two, add-one k) (sets-eq (threeOf b) fs k (omega arith) ∙ append-assoc (take k fs) (threeOf b) (drop (k + 3) fs))
 
--- ys right after xs
-module _ {A : Type 0} where
-  over-is : (k : ℕ) (ys w : List A) → over k ys w ≡ take k w ++ (ys ++ drop (k + length ys) w)
-  unfolding over
-  over-is k ys w = refl
-
-  over-next : (k a : ℕ) (xs ys w : List A) → length xs ≡ a → k + a ≤ length w → over (k + a) ys (over k xs w) ≡ over k (xs ++ ys) w
-  over-next k a xs ys w e h =
-      let u = over k xs w in
-      let d : drop (k + a + length ys) u ≡ drop (k + a + length ys) w =
-      sym (drop-drop (length ys) (k + a) u) ∙ ap (drop (length ys)) (over-left k w a xs e h) ∙ drop-drop (length ys) (k + a) w in
-      let l : k + length (xs ++ ys) ≡ k + a + length ys = rw length-append (omega arith) in
-      over-is (k + a) ys u ∙ rw (over-done k w a xs e h, d, over-is k (xs ++ ys) w, l, append-assoc, append-assoc) refl
-
 pub twelve-set : (k : ℕ) (b : FourBands) (fs : List Filter) → k + 11 < length fs
     → over (k + 9) (threeOf (b .b3)) (over (k + 6) (threeOf (b .b2)) (over (k + 3) (threeOf (b .b1)) (over k (threeOf (b .b0)) fs)))
     ≡ over k (inOrder (lines b)) fs
@@ -56,9 +41,9 @@ twelve-set k b fs h =
     let x1 = threeOf (b .b1) in
     let x2 = threeOf (b .b2) in
     let x3 = threeOf (b .b3) in
-    let e1 = over-next k 3 x0 x1 fs refl (omega arith) in
-    let e2 = over-next k 6 (x0 ++ x1) x2 fs refl (omega arith) in
-    let e3 = over-next k 9 (x0 ++ x1 ++ x2) x3 fs refl (omega arith) in
+    let e1 = over-next k fs 3 x0 refl (omega arith) x1 in
+    let e2 = over-next k fs 6 (x0 ++ x1) refl (omega arith) x2 in
+    let e3 = over-next k fs 9 (x0 ++ x1 ++ x2) refl (omega arith) x3 in
     rw (e1, e2) e3
 
 -- ---- the bands of n lines, the first's from filter k on
@@ -99,12 +84,6 @@ four-threes k fs =
 
 -- ---- lines one after the other: those of the first bands, and those of the rest
 
--- a row and k samples more, without the row
-past-row : (f k : ℕ) (rows : List Float) → drop f (take (f + k) rows) ≡ take k (drop f rows)
-past-row zero k rows = rw zero-add refl
-past-row (suc f) k [] = rw (take-nil (suc f + k), drop-nil (suc f), take-nil k) refl
-past-row (suc f) k (x ∷ rows) = rw suc-add (past-row f k rows)
-
 module _ (f : ℕ) where
   out-split : (bs cs : List Bands) (rows : List Float)
       → linesOut f (bs ++ cs) rows ≡ linesOut f bs (take (length bs * f) rows) ++ linesOut f cs (drop (length bs * f) rows)
@@ -112,7 +91,7 @@ module _ (f : ℕ) where
   out-split [] cs rows = rw zero-mul refl
   out-split (b ∷ bs) cs rows =
       let k = length bs * f in
-      rw (next-row (length bs) f, take-take f (f + k) rows (le-add-right f k), past-row f k rows, out-split bs cs (drop f rows), drop-drop k f rows, append-assoc) refl
+      rw (next-row (length bs) f, take-take f (f + k) rows (le-add-right f k), drop-take f rows k, out-split bs cs (drop f rows), drop-drop k f rows, append-assoc) refl
 
   end-split : (bs cs : List Bands) (rows : List Float)
       → linesEnd f (bs ++ cs) rows ≡ linesEnd f bs (take (length bs * f) rows) ++ linesEnd f cs (drop (length bs * f) rows)
@@ -120,7 +99,7 @@ module _ (f : ℕ) where
   end-split [] cs rows = rw zero-mul refl
   end-split (b ∷ bs) cs rows =
       let k = length bs * f in
-      rw (next-row (length bs) f, take-take f (f + k) rows (le-add-right f k), past-row f k rows, end-split bs cs (drop f rows), drop-drop k f rows) refl
+      rw (next-row (length bs) f, take-take f (f + k) rows (le-add-right f k), drop-take f rows k, end-split bs cs (drop f rows), drop-drop k f rows) refl
 
   -- as many bands as rows: each row through its own, and nothing over
   out-all : (n k : ℕ) (fs : List Filter) (rows : List Float) → length rows ≡ n * f → linesOut f (threes n k fs) rows ≡ byBands f n k fs rows
@@ -185,7 +164,7 @@ module _ (n f : ℕ) (fs : List Filter) (X : List Float) (Y : List Filter) (len 
       let el′ : last ≡ linesOut f bs part = rw same at el in
       let room : b + m * f ≤ length rows = omega (arith, rows-fit n f i b len (v .0) m h, v .1) in
       let long : length last ≡ m * f =
-      ap length el′ ∙ out-long f m k fs part (length-take-le (m * f) (drop b rows) (rw length-drop (omega arith))) in
+      ap length el′ ∙ out-long f m k fs part (part-long b rows (m * f) room) in
       let fits : k + 3 * m ≤ length gs = omega (arith, v .2) in
       let three-long : length ends ≡ 3 * m = ap length (end-all f m k fs part) ∙ length-bandEnds f m k fs part in
       let cut = threes-split m (n - (i + m)) (n - i) k fs (omega arith) in
@@ -196,8 +175,8 @@ module _ (n f : ℕ) (fs : List Filter) (X : List Float) (Y : List Filter) (len 
       let ey = rw (cut, end-split f bs cs (drop b rows), count, drop-drop (m * f) b rows, in-order) at (v .5) in
       rw (on, eh′) (
         rows-done n f i b len (v .0) m h,
-        kept-long b rows (m * f) last long room ∙ v .1,
-        kept-long k gs (3 * m) ends three-long fits ∙ v .2,
+        over-length b rows (m * f) last long room ∙ v .1,
+        over-length k gs (3 * m) ends three-long fits ∙ v .2,
         over-left k gs (3 * m) ends three-long fits ∙ (rw (drop-drop (3 * m) k gs, drop-drop (3 * m) k fs) at (ap (drop (3 * m)) (v .3))),
         rw (over-done b rows (m * f) last long room, left, el′, append-assoc) ex,
         rw (over-done k gs (3 * m) ends three-long fits, left, append-assoc) ey,
@@ -216,7 +195,7 @@ module _ (n f : ℕ) (fs : List Filter) (X : List Float) (Y : List Filter) (len 
       let ends = rw (quarter, lent b (4 * f) rows, four-threes (3 * i) gs) at eh in
       let outs = rw (quarter, lent b (4 * f) rows, four-threes (3 * i) gs) at el in
       let long : length last ≡ 4 * f =
-      ap length outs ∙ out-long f 4 (3 * i) gs part (length-take-le (4 * f) (drop b rows) (rw length-drop (omega arith))) in
+      ap length outs ∙ out-long f 4 (3 * i) gs part (part-long b rows (4 * f) room) in
       rw (come-back b rows (4 * f) last long) (some-turn 4 hs last h hn v ends outs)
 
   pub one-turn : (hs : List Filter) (last : List Float) → i < n → 3 * n ≤ length fs → Filtering n f fs X Y len i b gs rows
@@ -227,7 +206,7 @@ module _ (n f : ℕ) (fs : List Filter) (X : List Float) (Y : List Filter) (len 
   one-turn hs last h hn v eh el =
       let room : b + f ≤ length rows = omega (arith, row-fits n f i b len (v .0) h, v .1) in
       let part = take f (drop b rows) in
-      let long : length part ≡ f = length-take-le f (drop b rows) (rw length-drop (omega arith)) in
+      let long : length part ≡ f = part-long b rows f room in
       let all = take-all f part (omega arith) in
       let none = drop-of-length-le part {i = f} (omega arith) in
       let outs = rw (lent b f rows) at el in

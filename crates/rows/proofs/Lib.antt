@@ -1,6 +1,4 @@
 pub mod Ways
-pub mod Stretches
-pub mod RowsLeft
 pub mod RowAt
 pub mod SumTurns
 pub mod BandTurns

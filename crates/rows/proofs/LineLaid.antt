@@ -1,15 +1,17 @@
 -- One row set in the work memory of the wall unit, and step 4 of a line there. Assumes nothing.
 use mathlib.Core.Path.{_≡_, refl, sym, ap, _∙_}
 use mathlib.Core.Bool.{Bool, true, false, cond}
-use mathlib.Core.List.{List, _++_}
+use mathlib.Core.List.{List, _++_, append-assoc}
 use Prim.Native.Nat.{ℕ, _+_, _*_, _-_, _<_, _≤_}
 use native.Mathlib.Omega.{arith}
 use lib.Ieee.{Float}
-use lib.ListN.{length, take, drop, length-drop, take-append-drop}
-use lib.Seq.{drop-drop, length-take-le}
+use lib.ListN.{length, take, drop, take-append-drop}
+use lib.Seq.{take-add, length-take-le}
 use borrow.Rule.Slice.PartMut.{putMid}
 use Rattle.samples.specs.Lists.{over, row, setRow}
-use Rattle.samples.proofs.Turns.{lent, over-length, over-row, over-before, over-left}
+use Rattle.samples.proofs.Turns.{lent}
+use Rattle.samples.proofs.Lists.{cut, lent-long, first-of, come-back, over-front, over-length, over-here, over-again}
+use Rattle.samples.proofs.Rows.{row-ends, row-lies, row-set}
 use Rattle.iir.specs.declared.Filter.{Filter}
 use Rattle.iir.specs.Runs.{bandsOut, bandsEnd}
 use Rattle.iir.proofs.Laws.{bands-length}
@@ -20,12 +22,8 @@ use Rattle.frame.proofs.RowLaws.{length-plus}
 use Rattle.rows.specs.Fits.{WorkFits}
 use Rattle.rows.specs.Rows.{rowsOf, joined, laid}
 use Rattle.rows.specs.Parts.{lineLaid, lineEnds}
-use Rattle.rows.proofs.Stretches.{in-front, lent-long, come-back, over-front, over-after, over-within}
-use Rattle.rows.proofs.RowAt as rows
-use Rattle.rows.proofs.RowFits.{row-in}
-use Rattle.rows.proofs.RowsOf.{all-rows}
+use Rattle.rows.proofs.RowsOf.{from-mixed}
 use Rattle.rows.proofs.SumTurns.{sum, sum-long, added-in}
-use Rattle.rows.proofs.RowJoins.{first-of}
 
 module _ (f i : ℕ) (w : List Float) (h : i < 16) (fits : WorkFits wall f (length w)) where
   abbrev k : ℕ
@@ -37,64 +35,41 @@ module _ (f i : ℕ) (w : List Float) (h : i < 16) (fits : WorkFits wall f (leng
   abbrev mixed : List Float
   mixed = take k (drop (f + k) w)
 
-  abbrev from : List Float
-  from = take f (drop (f + k + k) w) ++ drop (f + k + k + f) w
-
-  reads-long : length reads ≡ k
-  reads-long = length-take-le k (drop f w) (rw length-drop (omega (arith, fits .work-is)))
-
-  mixed-long : length mixed ≡ k
-  mixed-long = length-take-le k (drop (f + k) w) (rw length-drop (omega (arith, fits .work-is)))
-
   input-long : length (take f w) ≡ f
   input-long = length-take-le f w (omega (arith, fits .work-is))
 
   module _ (r : List Float) (e : length r ≡ f) where
-    in-rows : (q : List Float) → length q ≡ k → i * f + length r ≤ length q
-    in-rows q l = omega (arith, row-in i f h)
-
     -- row i of those read
     pub read-set : over (f + i * f) r w ≡ laid (take f w) (setRow f i r reads) mixed (take f (drop (f + k + k) w)) (drop (f + k + k + f) w)
     unfolding joined
     read-set =
-        ap (over (f + i * f) r) (all-rows f w)
-        ∙ over-after r f (i * f) (take f w) (reads ++ (mixed ++ from)) input-long
-        ∙ ap (λ (l : List Float). take f w ++ l)
-        (over-within r (i * f) reads (mixed ++ from) (in-rows reads reads-long) ∙ ap (λ (l : List Float). l ++ (mixed ++ from)) (rows.over-row f i r reads e))
+        row-set f f 16 i w h r e (omega (arith, fits .work-is))
+        ∙ ap (λ (l : List Float). take f w ++ (setRow f i r reads ++ l)) (from-mixed f w)
 
     -- row i of those mixed
     pub mixed-set : over (17 * f + i * f) r w ≡ laid (take f w) reads (setRow f i r mixed) (take f (drop (f + k + k) w)) (drop (f + k + k + f) w)
     unfolding joined
     mixed-set =
-        let at : 17 * f + i * f ≡ f + (k + i * f) = omega arith in
+        let at : 17 * f + i * f ≡ f + k + i * f = omega arith in
         ap (λ (j : ℕ). over j r w) at
-        ∙ ap (over (f + (k + i * f)) r) (all-rows f w)
-        ∙ over-after r f (k + i * f) (take f w) (reads ++ (mixed ++ from)) input-long
-        ∙ ap (λ (l : List Float). take f w ++ l)
-        (over-after r k (i * f) reads (mixed ++ from) reads-long
-        ∙ ap (λ (l : List Float). reads ++ l)
-        (over-within r (i * f) mixed from (in-rows mixed mixed-long) ∙ ap (λ (l : List Float). l ++ from) (rows.over-row f i r mixed e)))
+        ∙ row-set f (f + k) 16 i w h r e (omega (arith, fits .work-is))
+        ∙ (λ x. take-add f k w x ++ (setRow f i r mixed ++ cut (f + k + k) w f x))
+        ∙ append-assoc (take f w) reads (setRow f i r mixed ++ (take f (drop (f + k + k) w) ++ drop (f + k + k + f) w))
 
   -- where row i lies of the rows read, and of those mixed
-  row-lies : (at : ℕ) → at + k ≤ length w → take f (drop (at + i * f) w) ≡ row f i (take k (drop at w))
-  row-lies at l =
-      let v = drop at w in
-      let lv : k ≤ length v = rw length-drop (omega arith) in
-      sym (rows.row-at f i (take k v) ∙ in-front (i * f) v f k (row-in i f h) lv ∙ ap (take f) (drop-drop (i * f) at w))
-
   pub read-at : take f (drop (f + i * f) w) ≡ row f i reads
-  read-at = row-lies f (omega (arith, fits .work-is))
+  read-at = row-lies f f 16 i w h
 
   pub mixed-at : take f (drop (17 * f + i * f) w) ≡ row f i mixed
   mixed-at =
       let at : 17 * f + i * f ≡ f + k + i * f = omega arith in
-      ap (λ (j : ℕ). take f (drop j w)) at ∙ row-lies (f + k) (omega (arith, fits .work-is))
+      ap (λ (j : ℕ). take f (drop j w)) at ∙ row-lies f (f + k) 16 i w h
 
   abbrev b : ℕ
   b = 17 * f + i * f
 
   room : b + f ≤ length w
-  room = omega (arith, row-in i f h, fits .work-is)
+  room = omega (arith, row-ends i 16 f h, fits .work-is)
 
   -- step 4 of line i: its row through the bands, and then the input added to it
   module _ (tail : Bool) (fs gs : List Filter) (x y : List Float)
@@ -116,15 +91,11 @@ module _ (f i : ℕ) (w : List Float) (h : i < 16) (fits : WorkFits wall f (leng
     w₁-is = come-back b w f x out-long
 
     w₁-long : length w₁ ≡ length w
-    w₁-long = ap length w₁-is ∙ over-length b x w (omega (arith, out-long, room))
+    w₁-long = ap length w₁-is ∙ over-length b w f x out-long room
 
     -- set again
     set-again : (s : List Float) → length s ≡ f → over b s w₁ ≡ over b s w
-    unfolding over
-    set-again s l =
-        let front : take b w₁ ≡ take b w = ap (take b) w₁-is ∙ over-before b x w (omega (arith, room)) in
-        let left : drop (b + f) w₁ ≡ drop (b + f) w = ap (drop (b + f)) w₁-is ∙ over-left b w f x out-long room in
-        rw (l, front, left) refl
+    set-again s l = ap (over b s) w₁-is ∙ over-again b w f x out-long room s l
 
     abbrev lent-all : List Float
     lent-all = take (b + f - 0) (drop 0 w₁)
@@ -139,9 +110,8 @@ module _ (f i : ℕ) (w : List Float) (h : i < 16) (fits : WorkFits wall f (leng
     with-input e =
         let before : 0 + f ≤ b = omega arith in
         let g : b + f ≤ length w₁ = omega (arith, w₁-long, room) in
-        let set : take f (drop b (over b x w)) ≡ x = ap (λ (j : ℕ). take j (drop b (over b x w))) (sym out-long) ∙ over-row b x w (omega (arith, room)) in
-        let here : take f (drop b w₁) ≡ out = ap (λ (l : List Float). take f (drop b l)) w₁-is ∙ set ∙ out-is in
-        let first : take f (drop 0 w₁) ≡ take f w = ap (take f) w₁-is ∙ over-front b w f x (omega arith) (omega (arith, room)) in
+        let here : take f (drop b w₁) ≡ out = ap (λ (l : List Float). take f (drop b l)) w₁-is ∙ over-here b w f x out-long room ∙ out-is in
+        let first : take f (drop 0 w₁) ≡ take f w = ap (take f) w₁-is ∙ over-front b w x (omega (arith, room)) f (omega arith) in
         added-in 0 b f w₁ before g y e ∙ set-again (sum 0 b f w₁ before g) (sum-long 0 b f w₁ before g) ∙ rw (here, first) refl
 
     pub line-laid : y ≡ cond tail lent-all (addedFirst f lent-all)

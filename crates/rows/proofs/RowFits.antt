@@ -3,7 +3,7 @@ use mathlib.Core.Path.{_≡_, refl, sym, ap, _∙_}
 use mathlib.Core.Bool.{Bool, true, false, _&&_}
 use mathlib.Core.List.{List}
 use Prim.Native.Nat.{ℕ, suc, _+_, _*_, _-_, _%_, _<_, _≤_}
-use native.Mathlib.Nat.{mul-le-mul, le-of-eq}
+use native.Mathlib.Nat.{mul-le-mul}
 use native.Mathlib.Numerals.{add-one}
 use native.Mathlib.Omega.{arith}
 use lib.Dec.{leb, eqb}
@@ -35,10 +35,6 @@ few-of n f e =
 few-yes : (n f : ℕ) → 0 < n → n ≤ 16 → f ≤ 65536 → fewRows n f ≡ true
 unfolding fewRows
 few-yes n f some few small = rw (le-leb 1 n some, le-leb n 16 few, le-leb f 65536 small) refl
-
--- row i of sixteen, and those before it
-pub row-in : (i f : ℕ) → i < 16 → i * f + f ≤ 16 * f
-row-in i f h = let e : suc i * f ≤ 16 * f = mul-le-mul h (le-of-eq refl) in omega (arith, native.Mathlib.Nat.suc-mul i f)
 
 -- ---- the rows of steps 3 and 4
 

@@ -3,7 +3,6 @@ use mathlib.Core.Path.{_≡_, refl, sym, ap, _∙_}
 use mathlib.Core.Bool.{Bool, true, false, cond}
 use mathlib.Core.List.{List, [], _∷_, _++_, append-assoc}
 use Prim.Native.Nat.{ℕ, zero, suc, _+_, _*_, _-_, _<_, _≤_}
-use native.Mathlib.Nat.{sub-zero}
 use native.Mathlib.Omega.{arith}
 use lib.Ieee.{Float}
 use lib.ListN.{length, getD, take, drop, length-append, length-drop, take-append-drop}
@@ -12,7 +11,7 @@ use borrow.Rule.Slice.PartMut.{putMid}
 use Rattle.samples.specs.declared.Answer.{Answer}
 use Rattle.samples.specs.declared.Answer.the-variants.{Accepted}
 use Rattle.samples.specs.Answers.{accept}
-use Rattle.samples.proofs.Turns.{middle, end}
+use Rattle.samples.proofs.Lists.{part-long, to-end, last-part}
 use Rattle.hadamard.specs.Rows.{mixedRows, judgedRows, rowsMixed}
 use Rattle.hadamard.proofs.Laws.{rows-accepted, rows-joined}
 use Rattle.unit.specs.Sizes.{total}
@@ -20,20 +19,6 @@ use Rattle.iir.specs.declared.Filter.{Filter}
 use Rattle.frame.specs.Lines.{bandEnds, addRows}
 use Rattle.frame.specs.Frame.{lineRows}
 use Rattle.frame.proofs.RowLaws.{byBands, length-bandEnds}
-use Rattle.rows.proofs.Stretches.{to-end}
-
--- what is lent of w, where it is p, of length a, and then q, and what comes back: of all before a, and of all from a on
-module _ (a : ℕ) (p q w : List Float) (e : w ≡ p ++ q) (l : length p ≡ a) where
-  pub first-part : (take (a - 0) (drop 0 w) ≡ p) × ((x : List Float) → putMid 0 (a - 0) w x ≡ x ++ q)
-  first-part = middle 0 a [] p q w e refl (l ∙ sym (sub-zero a))
-
-  pub last-part : (take (length w - a) (drop a w) ≡ q) × ((x : List Float) → putMid a (length w - a) w x ≡ p ++ x)
-  last-part = end a (length w) p q w e l (rw (e, length-append p q) (omega arith))
-
--- any w is the first a and then the others
-module _ (a : ℕ) (w : List Float) (h : a ≤ length w) where
-  pub first-of : (take (a - 0) (drop 0 w) ≡ take a w) × ((x : List Float) → putMid 0 (a - 0) w x ≡ x ++ drop a w)
-  first-of = first-part a (take a w) (drop a w) w (sym (take-append-drop a w)) (length-take-le a w h)
 
 -- ---- the input, n rows read and n others: these become the mixed rows, go through their bands, and get the input unless in a tail
 
@@ -79,7 +64,7 @@ lines-join n f k tail fs gs w x x₂ w₃ a h l e₁ e₂ e₃ =
     let bands = byBands f n 0 fs mixed in
     let ex = mix-part n f k w x a h l e₁ in
     let li : length input ≡ f = length-take-le f w (omega arith) in
-    let lr : length reads ≡ n * f = length-take-le (n * f) (drop f w) (rw length-drop (omega arith)) in
+    let lr : length reads ≡ n * f = part-long f w (n * f) (omega arith) in
     let lp : length (input ++ reads) ≡ at = rw length-append (omega arith) in
     let begun = to-end f w (omega arith) .1 x in
     let q = last-part at (input ++ reads) mixed _ (begun ∙ rw ex (sym (append-assoc input reads mixed))) lp in

@@ -7,10 +7,10 @@ use native.Mathlib.Omega.{arith}
 use lib.Dec.{eqb}
 use lib.Ieee.{Float}
 use lib.ListN.{take, drop, take-append-drop}
-use lib.Seq.{drop-drop}
 use borrow.Author.Tests.{eqb-true}
 use Rattle.samples.specs.Sizes.{frameOk}
 use Rattle.samples.proofs.Laws.{split-and, frame-of}
+use Rattle.samples.proofs.Lists.{cut}
 use Rattle.unit.specs.Model.{wall}
 use Rattle.unit.specs.Sizes.{total, workLen}
 use Rattle.rows.specs.Fits.{workFor, WorkFits}
@@ -21,17 +21,12 @@ module _ (f : ℕ) (w : List Float) where
 
   -- from the rows mixed on
   pub from-mixed : drop (f + k) w ≡ take k (drop (f + k) w) ++ (take f (drop (f + k + k) w) ++ drop (f + k + k + f) w)
-  from-mixed =
-      sym (take-append-drop k (drop (f + k) w))
-      ∙ ap (λ (l : List Float). take k (drop (f + k) w) ++ l)
-      (drop-drop k (f + k) w ∙ sym (take-append-drop f (drop (f + k + k) w)) ∙ ap (λ (l : List Float). take f (drop (f + k + k) w) ++ l) (drop-drop f (f + k + k) w))
+  from-mixed = cut (f + k) w k ∙ ap (λ (l : List Float). take k (drop (f + k) w) ++ l) (cut (f + k + k) w f)
 
   -- all of it
   pub all-rows : w ≡ take f w ++ (take k (drop f w) ++ (take k (drop (f + k) w) ++ (take f (drop (f + k + k) w) ++ drop (f + k + k + f) w)))
   all-rows =
-      sym (take-append-drop f w)
-      ∙ ap (λ (l : List Float). take f w ++ l)
-      (sym (take-append-drop k (drop f w)) ∙ ap (λ (l : List Float). take k (drop f w) ++ l) (drop-drop k f w ∙ from-mixed))
+      sym (take-append-drop f w) ∙ ap (λ (l : List Float). take f w ++ l) (cut f w k ∙ ap (λ (l : List Float). take k (drop f w) ++ l) from-mixed)
 
 -- a work memory of frames of f
 pub work-parts : (f work : ℕ) → work ≡ workLen wall f → work ≡ f + 16 * f + 16 * f + f + total (wall .passes)

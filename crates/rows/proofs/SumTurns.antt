@@ -5,15 +5,15 @@ use Prim.Native.Nat.{ℕ, _+_, _-_, _<_, _≤_}
 use native.Mathlib.Omega.{arith}
 use lib.Ieee.{Float}
 use lib.ListN.{length, take, drop, length-take, length-drop}
-use lib.Seq.{drop-at, drop-drop, take-add, take-take, length-take-le}
+use lib.Seq.{drop-drop, take-add, take-take, length-take-le}
 use borrow.Rule.Slice.PartMut.{putMid, post-is}
 use Rattle.samples.specs.Lists.{over}
-use Rattle.samples.proofs.Turns.{all-done, over-done, over-left}
+use Rattle.samples.proofs.Turns.{more, all-done}
+use Rattle.samples.proofs.Lists.{drop-take, over-front, over-length, over-done, over-left}
+use Rattle.samples.proofs.Rows.{Left, row-fits, row-done, none-left}
 use Rattle.frame.specs.Lines.{plus, addRows}
 use Rattle.frame.specs.Steps.{addedFirst}
 use Rattle.frame.proofs.RowLaws.{length-plus, added-first}
-use Rattle.rows.proofs.Stretches.{over-front, kept-long}
-use Rattle.rows.proofs.RowsLeft.{more, Left, row-fits, row-done, none-left}
 
 -- ---- the row at a added to a later one, at `at`
 
@@ -35,7 +35,7 @@ module _ (a at f : ℕ) (w : List Float) (h : a + f ≤ at) (g : at + f ≤ leng
       let e : at ≡ a + d = omega arith in
       let lx : d + f ≤ length x = simp length-drop (omega arith) in
       let t1 : take d y ≡ take d x = take-take d (d + f) x (omega arith) in
-      let t2 : drop d y ≡ take f (drop d x) = ap (drop d) (take-add d f x) ∙ drop-at (take d x) (take f (drop d x)) d (length-take-le d x (omega arith)) in
+      let t2 : drop d y ≡ take f (drop d x) = drop-take d x f in
       let t3 : take f y ≡ take f x = take-take f (d + f) x (omega arith) in
       let j : drop d x ≡ drop at w = drop-drop d a w ∙ ap (λ (m : ℕ). drop m w) (sym e) in
       let got : last ≡ take d x ++ sum = rw k at q ∙ added-first f d y (omega arith) (length-take-le (d + f) x lx) ∙ rw (t1, t2, t3, j) refl in
@@ -60,9 +60,9 @@ module _ (n f : ℕ) (input X : List Float) (len i e : ℕ) (rows : List Float) 
       let ex = rw (more n i h, drop-drop f e rows) at (v .4) in
       rw (added-in 0 e f rows first room last q) (
         row-done n f i e len (v .0) h,
-        kept-long e rows f row long room ∙ v .1,
+        over-length e rows f row long room ∙ v .1,
         omega arith,
-        over-front e rows f row (v .2) (omega arith) ∙ v .3,
+        over-front e rows row (omega arith) f (v .2) ∙ v .3,
         rw (over-done e rows f row long room, over-left e rows f row long room, v .3, append-assoc) ex,
       )
 

@@ -1,2 +1,4 @@
 pub mod Laws
 pub mod Turns
+pub mod Lists
+pub mod Rows

@@ -1,11 +1,11 @@
 -- Loops over lists: one turn and the end of a loop that changes a list in place, copies one over another, or fills one; and a part of a
 -- list that was lent and has come back. One law each, over the type of the elements. Assumes nothing.
-use mathlib.Core.Path.{_≡_, refl, sym, ap, _∙_}
+use mathlib.Core.Path.{_≡_, refl, ap, _∙_}
 use mathlib.Core.Bool.{Bool, true, false}
 use mathlib.Core.Logic.{_⊎_, inl, inr}
-use mathlib.Core.List.{List, [], _∷_, _++_, append-nil, append-assoc}
-use Prim.Native.Nat.{ℕ, zero, suc, _+_, _-_, _*_, _≤_, _<_}
-use native.Mathlib.Nat.{le-add-right, add-sub-cancel-left, suc-mul, mul-le-mul-right}
+use mathlib.Core.List.{List, [], _∷_, _++_, append-nil}
+use Prim.Native.Nat.{ℕ, zero, suc, _+_, _-_, _≤_, _<_}
+use native.Mathlib.Nat.{le-add-right, add-sub-cancel-left}
 use native.Mathlib.Numerals.{add-one, lt-add-one}
 use native.Mathlib.Omega.{arith}
 use lib.Dec.{ltb}
@@ -13,7 +13,6 @@ use lib.ListN.{length, getD, take, drop, set, replicate, length-append, length-t
 use lib.Seq.{take-suc-set, drop-set-lt, take-suc, drop-cons, append-snoc, take-all, length-take-le, set-at, take-at, drop-at}
 use borrow.Author.Tests.{ltb-true, ltb-false}
 use borrow.Rule.Slice.PartMut.{putMid, midOf, post-is}
-use Rattle.samples.specs.Lists.{over}
 
 pub lt-or-ge : (a b : ℕ) → (a < b) ⊎ (b ≤ a)
 lt-or-ge a b = go (ltb a b) refl
@@ -22,9 +21,9 @@ lt-or-ge a b = go (ltb a b) refl
     go true e = inl (ltb-true a b e)
     go false e = inr (ltb-false a b e)
 
--- row i of n rows of f ends within them
-pub row-ends : (i n f : ℕ) → i < n → i * f + f ≤ n * f
-row-ends i n f h = omega (arith, suc-mul i f, mul-le-mul-right f h)
+-- one turn more is left
+pub more : (n i : ℕ) → i < n → n - i ≡ suc (n - (i + 1))
+more n i h = omega arith
 
 -- ---- a loop that changes a list in place, from the front: `take i xs` is done and `drop i xs` is left
 
@@ -96,43 +95,3 @@ module _ {A : Type 0} where
         ap (take (e - a)) d ∙ take-at q s (e - a) lq,
         λ x. rw (t, d, drop-at q s (e - a) lq),
       )
-
-  -- from the end of two
-  pub end : (a e : ℕ) (p q w : List A) → w ≡ p ++ q → length p ≡ a → length q ≡ e - a
-      → (take (e - a) (drop a w) ≡ q) × ((x : List A) → putMid a (e - a) w x ≡ p ++ x)
-  end a e p q w ew lp lq =
-      let m = middle a e p q [] w (ew ∙ ap (λ (l : List A). p ++ l) (sym (append-nil q))) lp lq in
-      (m .0, λ x. m .1 x ∙ ap (λ (l : List A). p ++ l) (append-nil x))
-
-  -- ---- a row over a list
-
-  pub over-length : (at : ℕ) (row xs : List A) → at + length row ≤ length xs → length (over at row xs) ≡ length xs
-  unfolding over
-  over-length at row xs h = simp (length-append, length-take, length-drop) (omega arith)
-
-  -- the row is where it was put, and what lies before and after it is as it was
-  pub over-row : (at : ℕ) (row xs : List A) → at ≤ length xs → take (length row) (drop at (over at row xs)) ≡ row
-  unfolding over
-  over-row at row xs h =
-      let l : length (take at xs) ≡ at = length-take-le at xs h in
-      rw (drop-at (take at xs) (row ++ drop (at + length row) xs) at l, take-at row (drop (at + length row) xs) (length row) refl) refl
-
-  pub over-before : (at : ℕ) (row xs : List A) → at ≤ length xs → take at (over at row xs) ≡ take at xs
-  unfolding over
-  over-before at row xs h = take-at (take at xs) (row ++ drop (at + length row) xs) at (length-take-le at xs h)
-
-  -- with ys of k elements: what comes before their end, and what after it
-  module _ (at : ℕ) (xs : List A) (k : ℕ) (ys : List A) (e : length ys ≡ k) (h : at + k ≤ length xs) where
-    -- joined to the left
-    over-split : over at ys xs ≡ take at xs ++ ys ++ drop (at + k) xs
-    unfolding over
-    over-split = rw (← e) (sym (append-assoc (take at xs) ys (drop (at + length ys) xs)))
-
-    done-long : length (take at xs ++ ys) ≡ at + k
-    done-long = simp (length-append, length-take) (omega arith)
-
-    pub over-done : take (at + k) (over at ys xs) ≡ take at xs ++ ys
-    over-done = ap (take (at + k)) over-split ∙ take-at (take at xs ++ ys) (drop (at + k) xs) (at + k) done-long
-
-    pub over-left : drop (at + k) (over at ys xs) ≡ drop (at + k) xs
-    over-left = ap (drop (at + k)) over-split ∙ drop-at (take at xs ++ ys) (drop (at + k) xs) (at + k) done-long

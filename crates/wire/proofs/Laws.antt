@@ -13,7 +13,7 @@ use lib.Ieee.Bits.{ofBits-toBits, toBits-lt}
 use borrow.Author.Tests.{le-leb, lt-leb}
 use Rattle.samples.specs.Binary32.{+0}
 use Rattle.samples.specs.Lists.{over}
-use Rattle.samples.proofs.Turns.{next}
+use Rattle.samples.proofs.Turns.{more, next}
 use Rattle.wire.specs.Wire.{valueOf, bytesOf, firstSample, decoded, encoded, written}
 
 -- ---- four bytes
@@ -53,9 +53,8 @@ first-short bytes h = rw (lt-leb 4 (length bytes) h)
 pub decoded-more : (bytes : List ℕ) (n i : ℕ) → i < n
     → decoded (n - i) (drop (4 * i) bytes) ≡ firstSample (drop (4 * i) bytes) ∷ decoded (n - (i + 1)) (drop (4 * (i + 1)) bytes)
 decoded-more bytes n i h =
-    let e : n - i ≡ suc (n - (i + 1)) = omega arith in
     let f : 4 * i + 4 ≡ 4 * (i + 1) = omega arith in
-    rw (e, drop-drop, f)
+    rw (more n i h, drop-drop, f)
 
 -- ---- encoding
 

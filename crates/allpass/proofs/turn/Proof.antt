@@ -1,15 +1,14 @@
 -- `allpass::turn` meets its contract: each ring is lent twice, and the y ring lies where the x ring ends. Assumes nothing.
-use native.Mathlib.Omega.{arith}
 use borrow.Author.Needs.{needs}
 use Prim.Native.Nat.{ℕ, _-_, _≤_}
 use mathlib.Core.Path.{_≡_, refl, sym, _∙_}
 use mathlib.Core.List.{List, _++_}
 use lib.Ieee.{Float}
-use lib.ListN.{length, take, drop, length-append, length-drop, take-append-drop}
+use lib.ListN.{length, take, drop}
 use lib.Seq.{length-take-le}
 use borrow.Rule.Slice.PartMut.{putMid, midOf}
 use denote.Ref.{now}
-use Rattle.samples.proofs.Turns.{end}
+use Rattle.samples.proofs.Lists.{last-part, to-end}
 use Rattle.delay.specs.declared.Cursors.{Cursors}
 use Rattle.delay.specs.declared.Four.{Four}
 use Rattle.delay.specs.declared.FourAnswer.{FourAnswer}
@@ -35,8 +34,8 @@ module _ (lx : ℕ) (cx cy : Cursors) (rings : List Float) (x : Four) (h : lx �
       let w : List Float = x′ ++ drop lx rings in
       let lt : length (take lx rings) ≡ lx = length-take-le lx rings h in
       let lx′ : length x′ ≡ lx = rw (ex′, length-put4Ring) lt in
-      let old = end lx (length rings) (take lx rings) (drop lx rings) rings (sym (take-append-drop lx rings)) lt (length-drop lx rings) in
-      let new = end lx (length w) x′ (drop lx rings) w refl lx′ (rw length-append (omega arith)) in
+      let old = to-end lx rings h in
+      let new = last-part lx x′ (drop lx rings) w refl lx′ in
       let got : gy ≡ get4Answer (drop lx rings) cy = egy ∙ (λ i. get4Answer (old .0 i) cy) in
       let out = ey ∙ (λ i. allpass4 x (egx i .x) (got i .x)) in
       let cx′ = (λ i. epx i .cursors) ∙ (λ i. put4Answer (length (take lx rings)) (egx i .cursors) .cursors) in

@@ -8,7 +8,8 @@ use Prim.Native.Nat.{_+_, _-_, _*_, _≤_, _<_}
 use native.Mathlib.Nat.{add-mul, mul-comm, sub-zero}
 use lib.ListN.{length, take, drop, length-set}
 use lib.Ieee.{nan}
-use Rattle.samples.proofs.Turns.{stored, all-done, row-ends}
+use Rattle.samples.proofs.Turns.{stored, all-done}
+use Rattle.samples.proofs.Rows.{row-ends}
 use Rattle.audio_buffer.specs.Layout.{column, columns}
 use Rattle.audio_buffer.proofs.Turns.{column-more, columns-more}
 use Rattle.audio_buffer.proofs.transpose.Statement.{statement}

@@ -5,7 +5,8 @@ use mathlib.Core.Path.{_≡_, refl, sym, _∙_}
 use Prim.Native.Nat.{_+_, _-_, _*_, _≤_}
 use native.Mathlib.Nat.{add-mul, sub-zero}
 use lib.ListN.{length, drop, length-take, length-drop}
-use Rattle.samples.proofs.Turns.{row-ends, lent}
+use Rattle.samples.proofs.Turns.{lent}
+use Rattle.samples.proofs.Rows.{row-ends}
 use Rattle.levels.proofs.Turns.{summed-more}
 use Rattle.levels.specs.Levels.{summed}
 use Rattle.levels.proofs.add_channels.Statement.{statement}

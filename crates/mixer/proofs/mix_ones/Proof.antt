@@ -7,10 +7,10 @@ use native.Mathlib.Nat.{zero-mul, suc-mul}
 use native.Mathlib.Numerals.{add-one}
 use lib.ListN.{length}
 use Rattle.samples.specs.Lists.{over}
-use Rattle.samples.proofs.Turns.{row-ends}
+use Rattle.samples.proofs.Rows.{row-ends}
 use Rattle.hadamard.specs.Mix.{joined}
 use Rattle.hadamard.specs.Rows.{mixedRow, mixedRows}
-use Rattle.hadamard.proofs.Overs.{over-none}
+use Rattle.samples.proofs.Lists.{over-none}
 use Rattle.mixer.proofs.Passes.{rows-more}
 use Rattle.mixer.proofs.mix_ones.Statement.{statement}
 use Rattle.mixer.proofs.mix_ones.Tie as tie

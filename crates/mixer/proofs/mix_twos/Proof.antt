@@ -8,7 +8,7 @@ use lib.ListN.{length}
 use Rattle.samples.specs.Lists.{over}
 use Rattle.hadamard.specs.Mix.{joined}
 use Rattle.hadamard.specs.Rows.{mixedRow, mixedRows}
-use Rattle.hadamard.proofs.Overs.{over-none}
+use Rattle.samples.proofs.Lists.{over-none}
 use Rattle.mixer.proofs.Twos.{two-on, two-ends, rows-two}
 use Rattle.mixer.proofs.mix_twos.Statement.{statement}
 use Rattle.mixer.proofs.mix_twos.Tie as tie

@@ -2,7 +2,7 @@
 use native.Mathlib.Omega.{arith}
 use borrow.Author.Needs.{needs}
 use Prim.Native.Nat.{_-_}
-use Rattle.samples.proofs.Turns.{row-ends}
+use Rattle.samples.proofs.Rows.{row-ends}
 use Rattle.mixer.proofs.Passes.{row-summed}
 use Rattle.mixer.proofs.sum_row.Statement.{statement}
 use Rattle.mixer.proofs.sum_row.Tie as tie

@@ -6,7 +6,7 @@ use Prim.Native.Nat.{_*_, _≤_, _-_}
 use native.Mathlib.Nat.{zero-mul, suc-mul}
 use native.Mathlib.Numerals.{add-one}
 use lib.ListN.{length}
-use Rattle.samples.proofs.Turns.{row-ends}
+use Rattle.samples.proofs.Rows.{row-ends}
 use Rattle.mixer.specs.Passes.{laid, summed}
 use Rattle.mixer.proofs.Passes.{summed-none, summed-more}
 use Rattle.mixer.proofs.sum_rows.Statement.{statement}

@@ -4,7 +4,7 @@ use borrow.Author.Needs.{needs}
 use denote.Ref.{now}
 use Prim.Native.Nat.{_+_, _*_, _≤_}
 use lib.ListN.{length}
-use Rattle.rows.proofs.RowFits.{row-in}
+use Rattle.samples.proofs.Rows.{row-ends}
 use Rattle.unit.proofs.Laws.{store-is}
 use Rattle.reads.proofs.ReadLaid.{ring-within, row-within, read-laid}
 use Rattle.reads.proofs.wall_read.Statement.{statement}
@@ -24,8 +24,8 @@ module _ (c : lts.After-delay (line-start-reads.Asked, line-start-reads.Learnt, 
   ring-ends =
       omega (arith, c .before .line-start .ensures, c .delay .ensures, ring-within (s .args .f) (s .args .i) (now (s .args .store)) (now (s .args .work)) (s .pre .0) (s .pre .2) (s .pre .1))
 
-  row-ends : s .args .f + s .args .i * s .args .f + s .args .f ≤ length (now (s .args .work))
-  row-ends = row-within (s .args .f) (s .args .i) (now (s .args .store)) (now (s .args .work)) (s .pre .0) (s .pre .2) (s .pre .1)
+  row-room : s .args .f + s .args .i * s .args .f + s .args .f ≤ length (now (s .args .work))
+  row-room = row-within (s .args .f) (s .args .i) (now (s .args .store)) (now (s .args .work)) (s .pre .0) (s .pre .2) (s .pre .1)
 
 add-e : tie.Need-add-e
 add-e c = omega (arith, ring-ends c)
@@ -34,13 +34,13 @@ add-e-2 : tie.Need-add-e-2
 add-e-2 c = omega (arith, ring-ends c)
 
 mul-b : tie.Need-mul-b
-mul-b c = omega (arith, row-ends c)
+mul-b c = omega (arith, row-room c)
 
 add-b : tie.Need-add-b
-add-b c = omega (arith, row-ends c)
+add-b c = omega (arith, row-room c)
 
 add-t : tie.Need-add-t
-add-t c = omega (arith, row-ends c)
+add-t c = omega (arith, row-room c)
 
 mul-get : tie.Need-mul-get
 mul-get c = let p = s c in omega (arith, ring-ends c, p .pre .2, store-is (p .args .f), p .pre .1 .short)
@@ -49,10 +49,10 @@ part-get-end : tie.Need-part-get-end
 part-get-end c = omega (arith, ring-ends c)
 
 mul-get-2 : tie.Need-mul-get-2
-mul-get-2 c = let p = s (c .before) in omega (arith, row-in (p .args .i) (p .args .f) (p .pre .0), p .pre .1 .short)
+mul-get-2 c = let p = s (c .before) in omega (arith, row-ends (p .args .i) 16 (p .args .f) (p .pre .0), p .pre .1 .short)
 
 part-get-end-2 : tie.Need-part-get-end-2
-part-get-end-2 c = omega (arith, row-ends (c .before))
+part-get-end-2 c = omega (arith, row-room (c .before))
 
 returns : tie.Need-returns
 returns c =

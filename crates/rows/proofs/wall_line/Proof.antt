@@ -5,7 +5,7 @@ use denote.Ref.{now}
 use lib.ListN.{length}
 use Prim.Native.Nat.{_+_, _*_, _≤_}
 use Rattle.rows.proofs.Ways.{done-within}
-use Rattle.rows.proofs.RowFits.{row-in}
+use Rattle.samples.proofs.Rows.{row-ends}
 use Rattle.rows.proofs.LineLaid.{line-laid}
 use Rattle.rows.proofs.wall_line.Statement.{statement}
 use Rattle.rows.proofs.wall_line.Tie as tie
@@ -17,11 +17,11 @@ use Rattle.rows.proofs.sums.add_input.Reads as add-input-reads
 -- the rows end within the memory
 near : (s : lts.Start (three-at-reads.Asked, three-at-reads.Learnt, add-input-reads.Asked, add-input-reads.Learnt) reads.Pre reads.Post)
     → s .args .i * s .args .f + s .args .f ≤ 16 * 1024
-near s = omega (arith, row-in (s .args .i) (s .args .f) (s .pre .0), s .pre .1 .short)
+near s = omega (arith, row-ends (s .args .i) 16 (s .args .f) (s .pre .0), s .pre .1 .short)
 
 within : (s : lts.Start (three-at-reads.Asked, three-at-reads.Learnt, add-input-reads.Asked, add-input-reads.Learnt) reads.Pre reads.Post)
     → 17 * s .args .f + s .args .i * s .args .f + s .args .f ≤ length (now (s .args .work))
-within s = omega (arith, row-in (s .args .i) (s .args .f) (s .pre .0), s .pre .1 .work-is)
+within s = omega (arith, row-ends (s .args .i) 16 (s .args .f) (s .pre .0), s .pre .1 .work-is)
 
 mul-b-2 : tie.Need-mul-b-2
 mul-b-2 c = omega (arith, near (c .before))

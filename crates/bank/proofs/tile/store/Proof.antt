@@ -4,7 +4,8 @@ use borrow.Author.Needs.{needs}
 use native.Mathlib.Omega.{arith}
 use mathlib.Core.Path.{refl}
 use Prim.Native.Nat.{_-_}
-use Rattle.bank.proofs.TileTurns.{Storing, over-none, one-stored, all-stored}
+use Rattle.samples.proofs.Lists.{over-none}
+use Rattle.bank.proofs.TileTurns.{Storing, one-stored, all-stored}
 use Rattle.bank.proofs.tile.store.Statement.{statement}
 use Rattle.bank.proofs.tile.store.Tie as tie
 

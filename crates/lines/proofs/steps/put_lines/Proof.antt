@@ -9,7 +9,7 @@ use lib.ListN.{length, getD, take, drop}
 use denote.Ref.{now}
 use Rattle.unit.specs.Sizes.{total}
 use Rattle.frame.specs.Settle.{putRows}
-use Rattle.rows.proofs.RowsLeft.{all-left}
+use Rattle.samples.proofs.Rows.{all-left}
 use Rattle.lines.proofs.LineLaws.{turn-fits}
 use Rattle.lines.proofs.LineTurns.{Putting, put-turn, put-done}
 use Rattle.lines.proofs.steps.put_lines.Statement.{statement}

@@ -8,7 +8,7 @@ use native.Mathlib.Nat.{zero-add, sub-zero}
 use lib.ListN.{length, getD}
 use denote.Ref.{now}
 use Rattle.frame.specs.Lines.{readRows}
-use Rattle.rows.proofs.RowsLeft.{all-left}
+use Rattle.samples.proofs.Rows.{all-left}
 use Rattle.lines.proofs.LineLaws.{turn-fits}
 use Rattle.lines.proofs.LineTurns.{Reading, read-turn, read-done}
 use Rattle.lines.proofs.steps.read_lines.Statement.{statement}

@@ -5,7 +5,7 @@ use mathlib.Core.Bool.{_&&_}
 use Prim.Native.Nat.{_+_, _*_}
 use denote.Ref.{now}
 use Rattle.search.specs.Search.{allFinite}
-use Rattle.lines.proofs.Parts.{end-is}
+use Rattle.samples.proofs.Lists.{end-is}
 use Rattle.lines.proofs.whole.frame_finite.Statement.{statement}
 use Rattle.lines.proofs.whole.frame_finite.Tie as tie
 
@@ -15,7 +15,7 @@ returns c =
     let fs = all .before .before in
     let a = c .before .before .before .before .before .args in
     let work = now (a .work) in
-    c .and .ensures ∙ (λ i. fs .filters-finite .ensures i && (all .all-finite .ensures ∙ ap allFinite (end-is work (a .f + a .n * a .f))) i)
+    c .and .ensures ∙ (λ i. fs .filters-finite .ensures i && (all .all-finite .ensures ∙ ap allFinite (end-is (a .f + a .n * a .f) work)) i)
 
 pub frame-finite-spec : {M : Type 1} → statement M
 frame-finite-spec =

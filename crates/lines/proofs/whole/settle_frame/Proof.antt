@@ -1,13 +1,14 @@
 -- `lines::whole::settle_frame` meets its contract: what is lent on are the rows, the rings and the output of the work memory. Assumes nothing.
 use native.Mathlib.Omega.{arith}
 use borrow.Author.Needs.{needs}
-use mathlib.Core.Path.{refl, sym, ap, _∙_}
+use mathlib.Core.Path.{sym, ap, _∙_}
 use Prim.Native.Nat.{_+_, _-_, _*_}
 use lib.ListN.{length, take, drop, length-drop}
 use denote.Ref.{now}
 use Rattle.frame.specs.Settle.{putRows}
 use Rattle.frame.proofs.RowLaws.{copied-all}
-use Rattle.lines.proofs.Parts.{part-is, part-long, end-is}
+use Rattle.samples.proofs.Turns.{lent}
+use Rattle.samples.proofs.Lists.{lent-long, end-is}
 use Rattle.lines.proofs.whole.settle_frame.Statement.{statement}
 use Rattle.lines.proofs.whole.settle_frame.Tie as tie
 
@@ -24,10 +25,10 @@ settle-requires c κs =
         few = l .few;
         some = l .some;
         small = l .small;
-        rows-are = ap length (part-is work at (at + m) m refl) ∙ part-long work at m (omega (arith, s .pre .rows));
+        rows-are = lent-long at work m (omega (arith, s .pre .rows));
         rings = l .rings;
       },
-      omega (arith, s .pre .rings, s .pre .rows, ap length (end-is work e), length-drop e work),
+      omega (arith, s .pre .rings, s .pre .rows, ap length (end-is e work), length-drop e work),
     )
 
 returns : tie.Need-returns
@@ -40,10 +41,10 @@ returns c =
     let at = a .f + m in
     let e = at + m + a .f in (
       settled .settle .ensures
-          ∙ (λ i. putRows (a .f) (a .n) 0 (a .ls) (a .cs) (part-is work at (at + m) m refl i) (end-is work e i) (now (a .store))),
+          ∙ (λ i. putRows (a .f) (a .n) 0 (a .ls) (a .cs) (lent at m work i) (end-is e work i) (now (a .store))),
       c .before .before .copy .ensures
-          ∙ copied-all (take (e - (at + m)) (drop (at + m) work)) (now (a .output)) (ap length (part-is work (at + m) e (a .f) refl) ∙ part-long work (at + m) (a .f) (omega (arith, s .pre .rows)) ∙ sym (s .pre .out))
-          ∙ part-is work (at + m) e (a .f) refl,
+          ∙ copied-all (take (e - (at + m)) (drop (at + m) work)) (now (a .output)) (lent-long (at + m) work (a .f) (omega (arith, s .pre .rows)) ∙ sym (s .pre .out))
+          ∙ lent (at + m) (a .f) work,
     )
 
 pub settle-frame-spec : {M : Type 1} → statement M

@@ -7,7 +7,7 @@ use lib.ListN.{length}
 use Rattle.frame.specs.Lines.{bandEnds}
 use Rattle.frame.proofs.RowLaws.{byBands}
 use Rattle.rows.proofs.Ways.{done-within}
-use Rattle.rows.proofs.RowsLeft.{rows-fit, row-fits}
+use Rattle.samples.proofs.Rows.{rows-fit, row-fits}
 use Rattle.rows.proofs.BandTurns.{Filtering, band-start, four-turn, one-turn, band-done}
 use Rattle.rows.proofs.filters.band_lines.Statement.{statement}
 use Rattle.rows.proofs.filters.band_lines.Tie as tie
