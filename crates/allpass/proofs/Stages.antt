@@ -3,7 +3,7 @@
 use native.Mathlib.Omega.{arith}
 use Prim.Native.Nat.{ℕ, zero, suc, _+_, _*_, _/_, _%_, _≤_}
 use mathlib.Core.Path.{_≡_, refl, sym, ap, subst, _∙_}
-use mathlib.Core.Bool.{Bool, true, false}
+use mathlib.Core.Bool.{true, false}
 use mathlib.Core.List.{List, [], _++_, append-assoc}
 use lib.Ieee.{Float, nan}
 use lib.ListN.{length, take, drop, length-append, length-take, length-drop, take-append-drop, List·getD-append}
@@ -11,7 +11,7 @@ use lib.Seq.{take-at, drop-at, drop-append-le, drop-drop}
 use borrow.Author.Tests.{le-leb, leb-true}
 use Rattle.samples.specs.Lists.{over}
 use Rattle.samples.proofs.Laws.{split-and}
-use Rattle.samples.proofs.Lists.{take-two, drop-two, over-length, over-at}
+use Rattle.samples.proofs.Lists.{take-two, drop-two, over-at}
 use Rattle.delay.specs.declared.Cursors.{Cursors}
 use Rattle.delay.specs.Ring.{listOf, fourOf}
 use Rattle.delay.specs.Calls.{get4Answer}
@@ -125,14 +125,6 @@ module _ (at lx ly : ℕ) (cx cy : Cursors) (w : List Float) (fits : at + (lx + 
       let same = pass-rings n (stageIn at lx ly cx cy w) row in
       simp (length-append, same .x, same .y, length-take, length-drop) (omega arith)
 
-  pub length-passed : (n t : ℕ) → t + 4 * n ≤ at → length (passed n t at lx ly cx cy w) ≡ length w
-  unfolding passed
-  length-passed n t h =
-      let s = stageIn at lx ly cx cy w in
-      let rings = bothRings (passEnd n s (drop t w)) in
-      let inner : length (over at rings w) ≡ length w = over-length at w (lx + ly) rings (length-rings n (drop t w)) (omega arith) in
-      over-length t (over at rings w) (4 * n) (passOut n s (drop t w)) (length-passOut n s (drop t w)) (omega arith) ∙ inner
-
   -- no fours change nothing
   pub pass-none : (t : ℕ) → t ≤ at → passed 0 t at lx ly cx cy w ≡ w
   unfolding passOut passEnd
@@ -179,15 +171,6 @@ module _ (f at lx ly : ℕ) (cx cy : Cursors) (w : List Float) where
   pub staged-not : partsFit f at lx ly (length w) ≡ false → staged f at lx ly cx cy w ≡ w
   unfolding staged
   staged-not e = rw e refl
-
-  pub length-staged : length (staged f at lx ly cx cy w) ≡ length w
-  length-staged = go (partsFit f at lx ly (length w)) refl
-    where
-      go : (b : Bool) → partsFit f at lx ly (length w) ≡ b → length (staged f at lx ly cx cy w) ≡ length w
-      go true e =
-          let h = fit-parts f at lx ly (length w) e in
-          ap length (staged-fit h) ∙ length-passed at lx ly cx cy w (h .rings) (f / 4) 0 (omega (arith, h .row))
-      go false e = ap length (staged-not e)
 
 -- a row of whole fours, a gap, and the rings of s, each as long as it has to be
 pub staged-laid : (f at lx ly : ℕ) (row gap rest : List Float) (s : Stage) → f % 4 ≡ 0

@@ -16,9 +16,6 @@ use samples::is_accepted;
 use samples::need;
 use samples::rate_ok;
 
-// The bands of the unit: low, mid and high.
-pub const NUM_BANDS: usize = 3;
-
 // The reverb time of each band, in seconds.
 #[repr(C)]
 pub struct Times {

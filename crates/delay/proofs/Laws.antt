@@ -1,11 +1,11 @@
 -- The laws by which the crates above speak of a ring: those of its views, what a judgement tells, what an accepted call gives, and the
--- lengths that every call leaves. Assumes nothing.
+-- length that every put of four leaves. Assumes nothing.
 use borrow.Author.Tests.{lt-ltb, le-leb, leb-true, ltb-true}
 use mathlib.Core.Path.{_≡_, refl, ap, _∙_}
 use mathlib.Core.List.{List}
 use Prim.Native.Nat.{ℕ, _+_, _≤_, _<_}
 use lib.Ieee.{Float}
-use lib.ListN.{length, take, replicate, length-replicate}
+use lib.ListN.{length, take, replicate}
 use Rattle.samples.specs.Binary32.{+0}
 use Rattle.samples.specs.declared.Answer.{Answer}
 use Rattle.samples.specs.declared.Answer.the-variants.{Accepted, BadState, BadLength, BadIndex}
@@ -13,7 +13,7 @@ use Rattle.samples.proofs.Laws.{needed, split-and}
 use Rattle.delay.specs.declared.Cursors.{Cursors}
 use Rattle.delay.specs.declared.Four.{Four}
 use Rattle.delay.specs.Ring.{rotl, wrap, read, write, readEach, listOf}
-use Rattle.delay.specs.Calls.{lengthOk, cursorsOk, countOk, judgedLength, judgedThen, judgedRing, judgedCount, both, readTo, writeTo, silent}
+use Rattle.delay.specs.Calls.{lengthOk, cursorsOk, countOk, judgedLength, judgedThen, judgedRing, judgedCount, both, readTo, writeTo}
 use Rattle.delay.specs.Calls.{freshAnswer, freshRing, resetAnswer, resetRing, getAnswer, getOut, putAnswer, putRing, get4Answer, put4Answer, put4Ring}
 -- `demands` cites it from here
 pub use Rattle.samples.proofs.Laws.{accept-either}
@@ -121,23 +121,9 @@ put4-ok ring c x r h =
       rw e (write-each ring (listOf x) (c .write .0) (r .writes) h),
     )
 
--- ---- lengths, whatever is answered
+-- ---- its length, whatever is answered
 
-module _ (ring : List Float) where
-  pub length-silent : (a : Answer) → length (silent a ring) ≡ length ring
-  length-silent a = accept-either (λ (xs : List Float). length xs ≡ length ring) a (λ e. length-replicate (length ring) +0) (λ e. refl)
-
-  pub length-getOut : (out : List Float) (c : Cursors) → length (getOut ring c out) ≡ length out
-  length-getOut out c =
-      accept-either (λ (xs : List Float). length xs ≡ length out) (judgedCount (length ring) c (length out))
-      (λ e. length-read ring (c .read .0) (length out) (count-ok _ _ _ e .fits)) (λ e. refl)
-
-  pub length-putRing : (xs : List Float) (c : Cursors) → length (putRing ring c xs) ≡ length ring
-  length-putRing xs c =
-      accept-either (λ (ys : List Float). length ys ≡ length ring) (judgedCount (length ring) c (length xs))
-      (λ e. length-write ring xs (c .write .0) (count-ok _ _ _ e .fits)) (λ e. refl)
-
-  pub length-put4Ring : (c : Cursors) (x : Four) → length (put4Ring ring c x) ≡ length ring
-  length-put4Ring c x =
-      accept-either (λ (ys : List Float). length ys ≡ length ring) (judgedRing (length ring) c)
-      (λ e. length-writeEach ring (listOf x) (c .write .0)) (λ e. refl)
+pub length-put4Ring : (ring : List Float) (c : Cursors) (x : Four) → length (put4Ring ring c x) ≡ length ring
+length-put4Ring ring c x =
+    accept-either (λ (ys : List Float). length ys ≡ length ring) (judgedRing (length ring) c)
+    (λ e. length-writeEach ring (listOf x) (c .write .0)) (λ e. refl)

@@ -4,14 +4,13 @@ use mathlib.Core.Bool.{Bool, true}
 use mathlib.Core.List.{List, [], _∷_, _++_}
 use Prim.Native.Nat.{suc}
 use lib.ListN.{length}
-use lib.Ieee.{Float, ofBits}
-use Rattle.samples.specs.Binary32.{+0, plusZero}
+use lib.Ieee.{Float}
 use Rattle.samples.proofs.Laws.{split-and}
 use Rattle.iir.specs.declared.Filter.{Filter}
 use Rattle.iir.specs.declared.Bands.{Bands}
-use Rattle.iir.specs.Step.{fromCoefficients, outOf, step}
+use Rattle.iir.specs.Step.{outOf, step}
 use Rattle.iir.specs.Runs.{runOut, runEnd, bandsOut, bandsEnd}
-use Rattle.iir.specs.Nine.{nine, blankFilter}
+use Rattle.iir.specs.Nine.{nine}
 
 -- what comes out of a step is the `y1` that it leaves
 pub step-out : (f : Filter) (x : Float) → step f x .y1 ≡ outOf f x
@@ -86,10 +85,6 @@ pub record Each (p : Float → Bool) (f : Filter) : Type 0 where
   pub y1 : p (f .y1) ≡ true
   pub y2 : p (f .y2) ≡ true
 
-pub nine-all : (p : Float → Bool) (f : Filter) → Each p f → nine p f ≡ true
-unfolding nine
-nine-all p f e = rw (e .a1, e .a2, e .b0, e .b1, e .b2, e .x1, e .x2, e .y1, e .y2)
-
 pub nine-each : (p : Float → Bool) (f : Filter) → nine p f ≡ true → Each p f
 unfolding nine
 nine-each p f e =
@@ -102,8 +97,3 @@ nine-each p f e =
     let x2 = split-and _ _ (x1 .1) in
     let y1 = split-and _ _ (x2 .1) in
     record { a1 = a1 .0; a2 = a2 .0; b0 = b0 .0; b1 = b1 .0; b2 = b2 .0; x1 = x1 .0; x2 = x2 .0; y1 = y1 .0; y2 = y1 .1 }
-
--- a filter of nine +0 is blank
-pub blank-new : blankFilter (fromCoefficients +0 +0 +0 +0 +0) ≡ true
-unfolding nine plusZero ofBits
-blank-new = refl

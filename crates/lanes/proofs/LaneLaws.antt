@@ -21,11 +21,6 @@ lane-step (suc zero) l x = refl
 lane-step (suc (suc zero)) l x = refl
 lane-step (suc (suc (suc k))) l x = refl
 
--- line k's number among those that came out is what came out of its filter
-lane-out : (k : ℕ) (l : Lanes) → lane k l .y1 ≡ at k (l .y1)
-unfolding lane
-lane-out k l = refl
-
 -- one sample of line k's row goes through its three bands
 module _ (k : ℕ) (g : Bank) (x : Four) {l r : List Float} (e : l ≡ at k x ∷ r) where
   pub bank-out : bandsOut (bandsAt k g) l ≡ at k (stepBank g x .l2 .y1) ∷ bandsOut (bandsAt k (stepBank g x)) r

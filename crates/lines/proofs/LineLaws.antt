@@ -11,7 +11,7 @@ use Rattle.delay.proofs.Laws.{Moves}
 use Rattle.frame.proofs.RowLaws.{Held}
 use Rattle.samples.proofs.Turns.{more}
 use Rattle.samples.proofs.Rows.{Left, row-fits}
-use Rattle.lines.specs.Work.{Rings, Within}
+use Rattle.lines.specs.Work.{Rings}
 
 -- ---- the rings of n lines
 
@@ -26,11 +26,6 @@ module _ (f : ℕ) (ls : List ℕ) (cs : List Cursors) (len : ℕ) where
   -- hold a frame each
   pub lines-held : (n : ℕ) → Rings f n 0 0 ls cs len → Held f n 0 ls len
   lines-held n r = rw sub-zero at (rings-held n 0 0 r)
-
-  -- have their cursors within them
-  pub rings-within : (n i a : ℕ) → Rings f n i a ls cs len → Within n i ls cs
-  rings-within zero i a r = tt
-  rings-within (suc n) i a r = (r .1, r .2, r .3, rings-within n (i + 1) (a + getD ls i 0) (r .5))
 
   module _ (n i a : ℕ) (r : Rings f (n - i) i a ls cs len) (h : i < n) where
     -- are those of line i and of the lines after it

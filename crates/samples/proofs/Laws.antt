@@ -57,10 +57,6 @@ accept-either P a {new} {old} f g = go (accepted a) refl
     go true e = let h = is-accepted a e in rw h (f h)
     go false e = rw (accept-no a new old e) (g e)
 
--- `new` and `old` may be one: then the answer does not count
-pub accept-same : {A : Type 0} (a : Answer) (x : A) → accept a x x ≡ x
-accept-same a x = accept-either (λ (y : _). y ≡ x) a (λ e. refl) (λ e. refl)
-
 -- a call that judges first and goes on by a test: `a` is the answer it gives, `j` the judgement that this is, `ok` what the test of `a` said
 module _ {a j : Answer} {ok : Bool} (e : a ≡ j) (t : ok ≡ accepted a) where
   -- let by, it was accepted, and what it made is the new; refused, the old is left

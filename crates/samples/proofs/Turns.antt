@@ -9,7 +9,7 @@ use native.Mathlib.Nat.{le-add-right, add-sub-cancel-left}
 use native.Mathlib.Numerals.{add-one, lt-add-one}
 use native.Mathlib.Omega.{arith}
 use lib.Dec.{ltb}
-use lib.ListN.{length, getD, take, drop, set, replicate, length-append, length-take, length-drop, length-replicate, drop-of-length-le}
+use lib.ListN.{length, getD, take, drop, set, replicate, length-replicate, drop-of-length-le}
 use lib.Seq.{take-suc-set, drop-set-lt, take-suc, drop-cons, append-snoc, take-all, length-take-le, set-at, take-at, drop-at}
 use borrow.Author.Tests.{ltb-true, ltb-false}
 use borrow.Rule.Slice.PartMut.{putMid, midOf, post-is}
@@ -51,9 +51,6 @@ module _ {A : Type 0} (s d : List A) (i : ℕ) where
   copy-more z h hd =
       let ht : length (take i s) ≡ i = length-take-le i s (omega arith) in
       rw (drop-cons d i z, set-at, add-one, take-suc s i z, append-snoc)
-
-  pub copy-length : i ≤ length s → length s ≡ length d → length (take i s ++ drop i d) ≡ length d
-  copy-length h e = simp (length-append, length-take, length-drop) (omega arith)
 
   pub copy-all : length s ≤ i → length s ≡ length d → take i s ++ drop i d ≡ s
   copy-all h e =
