@@ -67,6 +67,10 @@
  * above 0 (an empty slice may be NULL), or a bool whose byte is neither 0 nor 1. A state in use must not be
  * changed between calls; one that was changed is refused only where a field is out of range.
  *
+ * A STORE IS LENT AS STORE ALONE. That every kept number is finite holds from an accepted hall_fresh on, while
+ * nothing but the unit's own calls writes its state and its store. A stretch of the store that is lent to a call
+ * as work memory or as output is written as such: a job may leave an infinity there, and answer 0.
+ *
  * A slice is a pointer and a count of floats, not of bytes. A const slice is never written. A state is 4,056
  * bytes and an answer 4,080, by value: leave room for a few of them on the stack. The layouts below are those
  * of x86-64.

@@ -1,7 +1,7 @@
 -- How many frames a tail lasts: step 6 of a whole apply.
 use mathlib.Core.Bool.{cond, _&&_}
-use Prim.Native.Nat.{ℕ, _+_, _-_, _*_, _/_, _≤_}
-use lib.IntN.{pos}
+use Prim.Native.Nat.{ℕ, zero, suc, _+_, _-_, _*_, _/_, _≤_, min}
+use lib.IntN.{ℤ, pos, negsuc}
 use lib.Ieee.{Float, nan, inf, fin, binary32, up, down, ofInt}
 use Rattle.samples.specs.declared.Answer.{Answer}
 use Rattle.samples.specs.declared.Answer.the-variants.{Accepted, BadSize, BadTime}
@@ -36,3 +36,9 @@ countOf t rate frame = accept (judgedCount t rate frame) (tailCount t rate frame
 -- "The count lies between 0 and 9,600,000." It does after every call
 abbrev pub CountRange : Type 0
 CountRange = (t : Times) (rate frame : ℕ) → countOf t rate frame ≤ 9600000
+
+-- "count falls by one, staying at -2,147,483,648 there"
+abbrev pub fallen : ℤ → ℤ
+fallen (pos zero) = negsuc zero
+fallen (pos (suc n)) = pos n
+fallen (negsuc n) = negsuc (min (suc n) 2147483647)

@@ -7,7 +7,7 @@ ghost use mathlib.Core.Bool.{true};
 ghost use Prim.Native.Nat.{_≤_};
 ghost use lib.IntN.{pos};
 ghost use Rattle.bands.specs.Times.{timeOk, timesOk, larger, largest};
-ghost use Rattle.bands.specs.Tail.{ceiling, framesIn, judgedCount, countOf};
+ghost use Rattle.bands.specs.Tail.{ceiling, framesIn, judgedCount, countOf, fallen};
 use samples::Answer;
 use samples::Frames;
 use samples::and;
@@ -103,5 +103,17 @@ fn frames_in(time: f32, rate: u32, frame: u32) -> u32
         whole + 1
     } else {
         whole
+    }
+}
+
+// One frame less to come, down to the least count there is.
+pub fn fallen(count: Frames) -> Frames
+    ensures { λ r. ⌜ r ≡ record { 0 = fallen (count .0) } ⌝ }
+{
+    let n = count.0;
+    if n == -2147483648 {
+        count
+    } else {
+        Frames(n - 1)
     }
 }

@@ -1,1 +1,1 @@
-pub mod Close
+pub mod Workers

@@ -1,23 +1,19 @@
 // What the end of an open frame leaves of the state.
 use audio_buffer::verdict;
 use delay::Cursors;
+use frame::Stepped;
 use iir::Filter;
-use lines::Stepped;
 use samples::Answer;
 use samples::Frames;
-use silence::Outcome;
-use silence::quiet;
+use unit::Outcome;
 use unit::State;
 use unit::fresh_state;
+use unit::quiet;
 ghost use mathlib.Core.Path.{_≡_};
-ghost use mathlib.Core.Bool.{cond};
-ghost use Rattle.samples.specs.declared.Answer.the-variants.{Accepted, NotFinite};
-ghost use Rattle.audio_buffer.specs.declared.AudioEffectState.the-variants.{TailComplete};
-ghost use Rattle.audio_buffer.specs.Verdict.{verdictOf};
-ghost use Rattle.unit.specs.Hall.{ofState, toState};
+ghost use Rattle.unit.specs.UnitState.{ofState, toState};
 ghost use Rattle.unit.specs.Model.{wall};
-ghost use Rattle.silence.specs.Silence.{outcome};
-ghost use Rattle.closing.specs.Close.{idle, shut};
+ghost use Rattle.machine.specs.Jobs.{unitShut};
+ghost use Rattle.closing.specs.Workers.{idle, concluded};
 
 // The unit with no frame open, and other cursors, filters and another count.
 pub(crate) fn idle(
@@ -27,7 +23,7 @@ pub(crate) fn idle(
     count: Frames,
     filters: [Filter; 51],
 ) -> State
-    ensures { λ r. ⌜ r ≡ toState (idle wall (ofState s) lines passes (count .0) filters) ⌝ }
+    ensures { λ r. ⌜ r ≡ toState (idle (ofState s) (record { lines = lines; passes = passes }) (count .0) filters) ⌝ }
 {
     let rate = s.rate;
     let frame = s.frame;
@@ -41,7 +37,7 @@ pub(crate) fn idle(
 
 // The unit as it was before the open frame.
 pub(crate) fn shut(s: State) -> State
-    ensures { λ r. ⌜ r ≡ toState (shut wall (ofState s)) ⌝ }
+    ensures { λ r. ⌜ r ≡ toState (unitShut wall (ofState s)) ⌝ }
 {
     let lines = s.lines;
     let passes = s.passes;
@@ -52,7 +48,7 @@ pub(crate) fn shut(s: State) -> State
 
 // The outcome of a frame that nothing else refuses: 9 unless all of it is finite.
 pub(crate) fn concluded(s: State, frame: Stepped) -> Outcome
-    ensures { λ r. ⌜ r ≡ cond (frame .ok) (outcome Accepted (idle wall (ofState s) (frame .lines) (frame .passes) (s .next .0) (frame .filters)) (verdictOf (s .next .0))) (outcome NotFinite (shut wall (ofState s)) TailComplete) ⌝ }
+    ensures { λ r. ⌜ r ≡ concluded (ofState s) frame ⌝ }
 {
     if !frame.ok {
         return quiet(Answer::NotFinite, shut(s));

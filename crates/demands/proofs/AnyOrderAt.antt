@@ -13,15 +13,15 @@ use Rattle.samples.specs.Lists.{row}
 use Rattle.iir.specs.declared.Filter.{Filter}
 use Rattle.hadamard.specs.Rows.{mixedRows}
 use Rattle.hadamard.proofs.Laws.{rows-length}
-use Rattle.unit.specs.Hall.{Hall}
+use Rattle.unit.specs.UnitState.{UnitState}
 use Rattle.unit.specs.Model.{Model}
-use Rattle.unit.specs.Sizes.{total, lineLengths, filtersLen, storeLen, workLen}
-use Rattle.frame.specs.Frame.{Frame, frameOf, frameFrom, passesIn, lineRows}
-use Rattle.frame.proofs.RowLaws.{Held, length-readRows, length-bandEnds}
-use Rattle.frame.proofs.FrameLaws.{put-beside, out-long}
-use Rattle.turns.specs.Marks.{mixMark, lineMark, outputMark}
+use Rattle.unit.specs.Sizes.{lengths, total, filtersLen, storeLen, workLen, lengthsOf}
+use Rattle.stages.specs.Frame.{Frame, frameOf, frameFrom, passesIn, lineRows}
+use Rattle.stages.proofs.RowLaws.{Held, length-readRows, length-bandEnds}
+use Rattle.stages.proofs.FrameLaws.{put-beside, out-long}
+use Rattle.judges.specs.Marks.{mixMark, lineMark, outputMark}
 use Rattle.rows.specs.Rows.{Rows, rowsOf, joined}
-use Rattle.demands.specs.Jobs.{Memory}
+use Rattle.machine.specs.Ending.{Memory}
 use Rattle.demands.proofs.LineRings.{row-long, lines-held}
 use Rattle.demands.proofs.AnyOrderRows.{stacked, length-stacked}
 use Rattle.demands.proofs.AnyOrderFrame.{filters-row, rings-long}
@@ -30,7 +30,7 @@ use Rattle.demands.proofs.AnyOrderMarks.{at}
 
 -- what an open was given: the unit before it, the frame's kind, its filters, the count to be set, the input row, and the store
 pub record Opening : Type 0 where
-  pub unit : Hall
+  pub unit : UnitState
   pub tail : Bool
   pub filters : List Filter
   pub next : ℤ
@@ -44,24 +44,24 @@ frameIn m o = frameOf m (o .tail) (o .unit) (o .filters) (o .input) (o .store)
 -- the lengths that an accepted open has seen to
 pub record Fit (m : Model) (o : Opening) : Type 0 where
   pub passes : length (m .passes) ≡ 4
-  pub fours : o .unit .frame % 4 ≡ 0
+  pub fours : o .unit .settings .frame % 4 ≡ 0
   pub filters : length (o .filters) ≡ filtersLen m
-  pub input : length (o .input) ≡ o .unit .frame
-  pub store : length (o .store) ≡ storeLen m (o .unit .frame)
+  pub input : length (o .input) ≡ o .unit .settings .frame
+  pub store : length (o .store) ≡ storeLen m (lengths m (o .unit))
 
 -- ---- the memory at given marks
 
 abbrev pub silence : Opening → List Float
-silence o = replicate (o .unit .frame) +0
+silence o = replicate (o .unit .settings .frame) +0
 
 -- line i's row that was read, its mixed row, which becomes the row to put, and its filters
 abbrev pub readAt : Model → Opening → List Bool → ℕ → List Float
-readAt m o marks i = cond (at marks i) (row (o .unit .frame) i (frameIn m o .reads)) (silence o)
+readAt m o marks i = cond (at marks i) (row (o .unit .settings .frame) i (frameIn m o .reads)) (silence o)
 
 abbrev pub mixedAt : Model → Opening → List Bool → ℕ → List Float
 mixedAt m o marks i =
     cond (at marks (mixMark m))
-    (cond (at marks (lineMark m i)) (row (o .unit .frame) i (frameIn m o .lines .put)) (row (o .unit .frame) i (frameIn m o .lines .mixed)))
+    (cond (at marks (lineMark m i)) (row (o .unit .settings .frame) i (frameIn m o .lines .put)) (row (o .unit .settings .frame) i (frameIn m o .lines .mixed)))
     (silence o)
 
 abbrev pub bandsAt : Model → Opening → List Bool → ℕ → List Filter
@@ -72,7 +72,7 @@ abbrev pub outputAt : Model → Opening → List Bool → List Float
 outputAt m o marks = cond (at marks (outputMark m)) (frameIn m o .output .out) (silence o)
 
 abbrev pub ringsAt : Model → Opening → List Bool → List Float
-ringsAt m o marks = cond (at marks (outputMark m)) (frameIn m o .output .rings) (passesIn m (o .unit .frame) (o .store))
+ringsAt m o marks = cond (at marks (outputMark m)) (frameIn m o .output .rings) (passesIn (lengths m (o .unit)) (o .store))
 
 abbrev pub toneAt : Model → Opening → List Bool → List Filter
 toneAt m o marks = cond (at marks (outputMark m)) (frameIn m o .output .filters) (drop (3 * m .lines) (o .filters))
@@ -90,22 +90,16 @@ abbrev pub filtersAt : Model → Opening → List Bool → List Filter
 filtersAt m o marks = stacked (m .lines) (bandsAt m o marks) ++ toneAt m o marks
 
 -- the unit with a frame open, its filters and its marks
-abbrev pub unitWith : Opening → List Filter → List Bool → Hall
+abbrev pub unitWith : Opening → List Filter → List Bool → UnitState
 unitWith o fs marks = record {
-  rate = o .unit .rate;
-  frame = o .unit .frame;
-  lines = o .unit .lines;
-  passes = o .unit .passes;
+  settings = o .unit .settings;
+  cursors = o .unit .cursors;
   count = o .unit .count;
   filters = fs;
-  busy = true;
-  tail = o .tail;
-  marks = marks;
-  next = o .next;
-  before = o .unit .filters;
+  held = record { busy = true; tail = o .tail; marks = marks; next = o .next; before = o .unit .filters };
 }
 
-abbrev pub unitAt : Model → Opening → List Bool → Hall
+abbrev pub unitAt : Model → Opening → List Bool → UnitState
 unitAt m o marks = unitWith o (filtersAt m o marks) marks
 
 abbrev pub memoryAt : Model → Opening → List Bool → Memory
@@ -121,20 +115,20 @@ module _ (m : Model) (o : Opening) (h : Fit m o) where
   n = m .lines
 
   abbrev f : ℕ
-  f = o .unit .frame
+  f = o .unit .settings .frame
 
   abbrev R : Frame
   R = frameIn m o
 
   -- ---- lengths
 
-  pub held : Held f n 0 (lineLengths m f) (length (o .store))
+  pub held : Held f n 0 (lengthsOf m f) (length (o .store))
   unfolding storeLen
   held = lines-held m f (length (o .store)) (omega (arith, h .store))
 
   pub reads-long : length (R .reads) ≡ n * f
   unfolding frameFrom
-  reads-long = length-readRows f (lineLengths m f) (o .unit .lines) n 0 (o .store) held
+  reads-long = length-readRows f (lengthsOf m f) (o .unit .cursors .lines) n 0 (o .store) held
 
   pub mixed-long : length (R .lines .mixed) ≡ n * f
   unfolding frameFrom lineRows
@@ -152,13 +146,13 @@ module _ (m : Model) (o : Opening) (h : Fit m o) where
   unfolding frameFrom
   ends-three i b = ap length (filters-row n f (m .factor) (o .tail) (o .filters) (o .input) (R .reads) i b)
 
-  begun-long : length (passesIn m f (o .store)) ≡ total (m .passes)
+  begun-long : length (passesIn (lengthsOf m f) (o .store)) ≡ total (m .passes)
   unfolding storeLen
   begun-long = simp length-drop (omega (arith, h .store))
 
   done-long : length (R .output .rings) ≡ total (m .passes)
   unfolding frameFrom
-  done-long = rings-long n f (m .divisor) (m .passes) (o .unit .passes) (o .filters) (passesIn m f (o .store)) (R .reads) (h .passes) begun-long
+  done-long = rings-long n f (m .divisor) (m .passes) (o .unit .cursors .passes) (o .filters) (passesIn (lengthsOf m f) (o .store)) (R .reads) (h .passes) begun-long
 
   silence-long : length (silence o) ≡ f
   silence-long = length-replicate f +0
@@ -188,7 +182,7 @@ module _ (m : Model) (o : Opening) (h : Fit m o) where
     unfolding frameFrom
     output-long =
         cond-long (at marks (outputMark m)) _ _ f
-        (out-long n f (m .divisor) (m .passes) (o .unit .passes) (o .filters) (passesIn m f (o .store)) (R .reads) (h .fours)) silence-long
+        (out-long n f (m .divisor) (m .passes) (o .unit .cursors .passes) (o .filters) (passesIn (lengthsOf m f) (o .store)) (R .reads) (h .fours)) silence-long
 
     pub rings-at-long : length (ringsAt m o marks) ≡ total (m .passes)
     rings-at-long = cond-long (at marks (outputMark m)) _ _ (total (m .passes)) done-long begun-long

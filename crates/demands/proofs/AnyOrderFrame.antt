@@ -19,9 +19,9 @@ use Rattle.iir.proofs.Laws.{bands-length}
 use Rattle.unit.specs.Sizes.{total}
 use Rattle.allpass.specs.Passes.{passEnd}
 use Rattle.allpass.proofs.Stages.{pass-rings}
-use Rattle.frame.specs.Lines.{noFilter, bandRows, three, threeOf, bandEnds, plus, addRows}
-use Rattle.frame.specs.Frame.{stretch, stageAt, ringsOf, lineRows, outputRow}
-use Rattle.frame.proofs.RowLaws.{byBands, peel, length-plus, length-bandRows}
+use Rattle.stages.specs.Lines.{noFilter, bandRows, three, threeOf, bandEnds, plus, addRows}
+use Rattle.stages.specs.Frame.{stretch, stageAt, ringsOf, lineRows, outputRow}
+use Rattle.stages.proofs.RowLaws.{byBands, peel, length-plus, length-bandRows}
 use Rattle.demands.proofs.AnyOrderRows.{getD-row}
 
 -- ---- rows of lines

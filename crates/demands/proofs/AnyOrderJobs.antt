@@ -15,38 +15,37 @@ use Rattle.iir.specs.declared.Bands.{Bands}
 use Rattle.iir.specs.declared.Filter.{Filter}
 use Rattle.iir.specs.Runs.{bandsOut, bandsEnd}
 use Rattle.hadamard.specs.Rows.{mixedRows}
-use Rattle.unit.specs.Hall.{Hall}
+use Rattle.unit.specs.UnitState.{UnitState}
 use Rattle.unit.specs.Model.{Model}
-use Rattle.unit.specs.Sizes.{lineLengths, jobsLen}
-use Rattle.frame.specs.Lines.{noFilter, three, threeOf, plus}
-use Rattle.frame.specs.Frame.{Frame, OutputRow, frameFrom, passesIn, lineRows, newFilters}
-use Rattle.turns.specs.Marks.{mixMark, lineMark, outputMark, allDone}
+use Rattle.unit.specs.Sizes.{lengths, jobsLen, lengthsOf}
+use Rattle.stages.specs.Lines.{noFilter, three, threeOf, plus}
+use Rattle.stages.specs.Frame.{Frame, OutputRow, frameFrom, passesIn, lineRows, newFilters}
+use Rattle.judges.specs.Marks.{mixMark, lineMark, outputMark, allDone}
 use Rattle.rows.specs.Rows.{Rows, rowsOf, joined}
 use Rattle.rows.specs.Parts.{lineIn, lineLaid, lineEnds}
 use Rattle.outputs.specs.Parts.{outputIn, outputLaid, outputEnds}
-use Rattle.opening.specs.Play.{openLaid, openWork}
-use Rattle.jobs.specs.Steps.{readRow, readWork, mixLaid, mixWork, lineWork, lineFilters, outputWork, outputFilters}
+use Rattle.machine.specs.Jobs.{openLaid, readRow, readWork, mixLaid, lineJob, outputJob, jobWork, jobFilters}
 use Rattle.demands.proofs.LineRings.{read-row}
 use Rattle.demands.proofs.AnyOrderRows.{stacked, stacked-same, length-stacked, stacked-rows, stacked-all, row-stacked, row-of, set-stacked, set-of, over-end}
 use Rattle.rows.proofs.RowAt.{over-row, next-row}
 use Rattle.demands.proofs.AnyOrderFrame.{put-row, filters-row, three-row, output-asks, tone-long}
 use Rattle.demands.proofs.AnyOrderMarks.{at, true≢false, false-of, set-here, set-there, done-at, read-at, Legal}
-use Rattle.demands.proofs.AnyOrderAt.{Opening, frameIn, Fit, silence, readAt, mixedAt, bandsAt, outputAt, ringsAt, toneAt, rowsAt, filtersAt, unitAt}
+use Rattle.demands.proofs.AnyOrderAt.{Opening, frameIn, Fit, silence, readAt, mixedAt, bandsAt, outputAt, ringsAt, toneAt, rowsAt, filtersAt, unitAt, memoryAt}
 use Rattle.demands.proofs.AnyOrderAt.{held, reads-long, mixed-long, put-long, ends-long, read-long, mix-long, bands-long, cut}
 
 -- steps 4 and 5 of a unit
-abbrev lineRow : Hall → ℕ → Rows → List Float
-lineRow u i r = lineIn (u .frame) i (u .tail) (u .filters) r
+abbrev lineRow : UnitState → ℕ → Rows → List Float
+lineRow u i r = lineIn (u .settings .frame) i (u .held .tail) (u .filters) r
 
-abbrev outputOf : Model → Hall → Rows → OutputRow
-outputOf m u r = outputIn m (u .frame) (u .passes) (u .filters) r
+abbrev outputOf : Model → UnitState → Rows → OutputRow
+outputOf m u r = outputIn m (u .settings .frame) (u .cursors .passes) (u .filters) r
 
 module _ (m : Model) (o : Opening) (h : Fit m o) (marks : List Bool) where
   abbrev n : ℕ
   n = m .lines
 
   abbrev f : ℕ
-  f = o .unit .frame
+  f = o .unit .settings .frame
 
   abbrev R : Frame
   R = frameIn m o
@@ -75,7 +74,7 @@ module _ (m : Model) (o : Opening) (h : Fit m o) (marks : List Bool) where
       output-kept = ap (λ (b : Bool). cond b (R .output .out) (silence o)) mark-kept
 
       rings-kept : ringsAt m o marks ≡ ringsAt m o more
-      rings-kept = ap (λ (b : Bool). cond b (R .output .rings) (passesIn m f (o .store))) mark-kept
+      rings-kept = ap (λ (b : Bool). cond b (R .output .rings) (passesIn (lengthsOf m f) (o .store))) mark-kept
 
       tone-kept : toneAt m o marks ≡ toneAt m o more
       tone-kept = ap (λ (b : Bool). cond b (R .output .filters) (drop (3 * n) (o .filters))) mark-kept
@@ -99,7 +98,7 @@ module _ (m : Model) (o : Opening) (h : Fit m o) (marks : List Bool) where
       read-is : readRow m (unitAt m o marks) i (o .store) ≡ readAt m o (set marks i true) i
       unfolding frameFrom
       read-is =
-          let e = rw zero-add at (read-row f (lineLengths m f) (o .unit .lines) n 0 i (o .store) b (held m o h)) in
+          let e = rw zero-add at (read-row f (lengthsOf m f) (o .unit .cursors .lines) n 0 i (o .store) b (held m o h)) in
           sym e ∙ rw (set-here marks i (omega (arith, g .long))) refl
 
       pub read-filters : filtersAt m o marks ≡ filtersAt m o (set marks i true)
@@ -146,7 +145,7 @@ module _ (m : Model) (o : Opening) (h : Fit m o) (marks : List Bool) where
           let unmarked : at marks (lineMark m i) ≡ false = false-of _ (λ y. true≢false (sym (g .after-mix i b y) ∙ unmixed)) in
           rw (set-here marks (mixMark m) (omega (arith, g .long)), set-there marks (mixMark m) (lineMark m i) (mix-there i b), unmarked) refl)
 
-      pub mix-work : mixWork m (unitAt m o marks) (joined (rowsAt m o marks)) ≡ joined (rowsAt m o (set marks (mixMark m) true))
+      pub mix-work : mixLaid m f (joined (rowsAt m o marks)) ≡ joined (rowsAt m o (set marks (mixMark m) true))
       unfolding mixLaid
       mix-work =
           (λ t. joined (record {
@@ -198,7 +197,7 @@ module _ (m : Model) (o : Opening) (h : Fit m o) (marks : List Bool) where
           ∙ sym (put-row n f (m .factor) (o .tail) (o .filters) (o .input) (R .reads) i b (h .input))
           ∙ rw (mix-there-too, mark-here) refl
 
-      pub line-work : lineWork m (unitAt m o marks) i (joined (rowsAt m o marks)) ≡ joined (rowsAt m o lined)
+      pub line-work : jobWork m (memoryAt m o marks) (lineJob i) ≡ joined (rowsAt m o lined)
       unfolding lineLaid
       line-work =
           let set-is : setRow f i (lineRow (unitAt m o marks) i (rowsAt m o marks)) (stacked n (mixedAt m o marks)) ≡ stacked n (mixedAt m o lined) =
@@ -227,7 +226,7 @@ module _ (m : Model) (o : Opening) (h : Fit m o) (marks : List Bool) where
           ∙ sym (filters-row n f (m .factor) (o .tail) (o .filters) (o .input) (R .reads) i b)
           ∙ rw mark-here refl
 
-      pub line-filters : lineFilters m (unitAt m o marks) i (joined (rowsAt m o marks)) ≡ filtersAt m o lined
+      pub line-filters : jobFilters m (memoryAt m o marks) (lineJob i) ≡ filtersAt m o lined
       unfolding lineEnds
       line-filters =
           let three-i : 3 * i ≡ i * 3 = omega arith in
@@ -266,13 +265,13 @@ module _ (m : Model) (o : Opening) (h : Fit m o) (marks : List Bool) where
       output-is : outputOf m (unitAt m o marks) (rowsAt m o marks) ≡ R .output
       unfolding frameFrom
       output-is =
-          output-asks n f (m .divisor) (m .passes) (o .unit .passes) (o .filters) (filtersAt m o marks) (ringsAt m o marks) (stacked n (readAt m o marks)) tone-same
+          output-asks n f (m .divisor) (m .passes) (o .unit .cursors .passes) (o .filters) (filtersAt m o marks) (ringsAt m o marks) (stacked n (readAt m o marks)) tone-same
           ∙ rw (undone, all-reads e (omega (arith, g .long))) refl
 
       output-cut : outputOf m (unitAt m o marks) (rowsOf m f (joined (rowsAt m o marks))) ≡ R .output
       output-cut = ap (outputOf m (unitAt m o marks)) (cut m o h marks) ∙ output-is
 
-      pub output-work : outputWork m (unitAt m o marks) (joined (rowsAt m o marks)) ≡ joined (rowsAt m o out)
+      pub output-work : jobWork m (memoryAt m o marks) outputJob ≡ joined (rowsAt m o out)
       unfolding outputLaid
       output-work =
           (λ t. joined (record {
@@ -287,13 +286,13 @@ module _ (m : Model) (o : Opening) (h : Fit m o) (marks : List Bool) where
             reads = reads-kept (outputMark m) (omega arith) t;
             mixed = mixed-kept (outputMark m) out-there (λ q. omega arith) t;
             output = cond (sym out-here t) (R .output .out) (silence o);
-            rings = cond (sym out-here t) (R .output .rings) (passesIn m f (o .store));
+            rings = cond (sym out-here t) (R .output .rings) (passesIn (lengthsOf m f) (o .store));
           }))
 
-      pub output-filters : outputFilters m (unitAt m o marks) (joined (rowsAt m o marks)) ≡ filtersAt m o out
+      pub output-filters : jobFilters m (memoryAt m o marks) outputJob ≡ filtersAt m o out
       unfolding outputEnds frameFrom
       output-filters =
-          let tone : length (R .output .filters) ≡ 3 = tone-long n f (m .divisor) (m .passes) (o .unit .passes) (o .filters) (passesIn m f (o .store)) (R .reads) in
+          let tone : length (R .output .filters) ≡ 3 = tone-long n f (m .divisor) (m .passes) (o .unit .cursors .passes) (o .filters) (passesIn (lengthsOf m f) (o .store)) (R .reads) in
           let old : length (toneAt m o marks) ≡ 3 = rw undone (simp length-drop (omega (arith, h .filters))) in
           (λ t. over (3 * n) (output-cut t .filters) (filtersAt m o marks))
           ∙ over-end (3 * n) (R .output .filters) (stacked n (bandsAt m o marks)) (toneAt m o marks) lines-long (old ∙ sym tone)
@@ -327,10 +326,10 @@ module _ (m : Model) (o : Opening) where
       let tone : toneAt m o none ≡ drop (3 * m .lines) (o .filters) = rw no-output refl in
       (λ t. lines t ++ tone t) ∙ take-append-drop (3 * m .lines) (o .filters)
 
-  pub none-work : openWork m (o .unit) (o .input) (o .store) ≡ joined (rowsAt m o none)
+  pub none-work : openLaid m (o .unit .settings .frame) (o .input) (passesIn (lengths m (o .unit)) (o .store)) ≡ joined (rowsAt m o none)
   unfolding openLaid
   none-work =
-      let silent = silent-rows (m .lines) (o .unit .frame) in
+      let silent = silent-rows (m .lines) (o .unit .settings .frame) in
       let reads : stacked (m .lines) (λ i. silence o) ≡ stacked (m .lines) (readAt m o none) =
       stacked-same (m .lines) (λ i. silence o) (readAt m o none) (λ i b. rw (unmarked-at i (omega arith)) refl) in
       let mixed : stacked (m .lines) (λ i. silence o) ≡ stacked (m .lines) (mixedAt m o none) =
@@ -340,7 +339,7 @@ module _ (m : Model) (o : Opening) where
         reads = (silent ∙ reads) t;
         mixed = (silent ∙ mixed) t;
         output = cond (sym no-output t) (frameIn m o .output .out) (silence o);
-        rings = cond (sym no-output t) (frameIn m o .output .rings) (passesIn m (o .unit .frame) (o .store));
+        rings = cond (sym no-output t) (frameIn m o .output .rings) (passesIn (lengths m (o .unit)) (o .store));
       })
 
 -- ---- all marks
@@ -364,7 +363,7 @@ module _ (m : Model) (o : Opening) (h : Fit m o) (marks : List Bool) (long : len
 
   pub all-rows : rowsAt m o marks ≡ wholeRows m o
   all-rows =
-      let f = o .unit .frame in
+      let f = o .unit .settings .frame in
       let reads : stacked (m .lines) (readAt m o marks) ≡ frameIn m o .reads =
       stacked-same (m .lines) (readAt m o marks) (λ i. row f i (frameIn m o .reads)) (λ i b. rw (marked-at i (omega arith)) refl)
       ∙ stacked-all f (m .lines) (frameIn m o .reads) (reads-long m o h) in
@@ -377,7 +376,7 @@ module _ (m : Model) (o : Opening) (h : Fit m o) (marks : List Bool) (long : len
         reads = reads t;
         mixed = mixed t;
         output = cond (its-output t) (frameIn m o .output .out) (silence o);
-        rings = cond (its-output t) (frameIn m o .output .rings) (passesIn m f (o .store));
+        rings = cond (its-output t) (frameIn m o .output .rings) (passesIn (lengthsOf m f) (o .store));
       }
 
   pub all-filters : filtersAt m o marks ≡ newFilters (frameIn m o)

@@ -10,7 +10,7 @@ use lib.Seq.{getD-set-same, getD-set-other, getD-take}
 use Rattle.samples.proofs.Laws.{all-at}
 use Rattle.unit.specs.Model.{Model}
 use Rattle.unit.specs.Sizes.{jobsLen}
-use Rattle.turns.specs.Marks.{mixMark, lineMark, outputMark, allDone}
+use Rattle.judges.specs.Marks.{mixMark, lineMark, outputMark, allDone}
 
 abbrev pub at : List Bool → ℕ → Bool
 at marks k = getD marks k false

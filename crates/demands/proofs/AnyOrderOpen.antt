@@ -13,17 +13,18 @@ use Rattle.samples.specs.Binary32.{+0}
 use Rattle.samples.specs.Sizes.{rateOk, frameOk}
 use Rattle.samples.proofs.Laws.{split-and, join-and, frame-of}
 use Rattle.iir.specs.declared.Filter.{Filter}
-use Rattle.unit.specs.Hall.{Hall}
+use Rattle.unit.specs.UnitState.{UnitState}
 use Rattle.unit.specs.Model.{Model}
-use Rattle.unit.specs.Sizes.{filtersLen, jobsLen, storeLen, workLen, coefficientsLen}
-use Rattle.unit.specs.Range.{inRange, linesOk, passesOk}
+use Rattle.unit.specs.Sizes.{lengths, filtersLen, jobsLen, storeLen, workLen, coefficientsLen}
+use Rattle.unit.specs.Range.{inRange, cursorsIn}
 use Rattle.judges.specs.Judges.{judged, storeOk, workOk, lentOk, givenOk, judgedGiven}
-use Rattle.frame.specs.Frame.{Frame, frameFrom, lineRows}
-use Rattle.frame.proofs.RowLaws.{length-filtersOf}
-use Rattle.opening.specs.Play.{Play, apply, tail, isTail, filtersFor, inputFor, countFor, frameFor, wholeDue, opened, openWork}
-use Rattle.demands.specs.Jobs.{Memory}
-use Rattle.demands.specs.Calls.{start, answer, after}
-use Rattle.demands.specs.Requests.{Request}
+use Rattle.stages.specs.Frame.{Frame, frameFrom, lineRows}
+use Rattle.stages.proofs.RowLaws.{length-filtersOf}
+use Rattle.machine.specs.Whole.{Play, apply, tail, isTail, filtersFor, inputFor, countFor, frameFor, wholeDue}
+use Rattle.machine.specs.Jobs.{memoryOpened}
+use Rattle.machine.specs.Ending.{Memory}
+use Rattle.machine.specs.Calls.{ending, start, answer, after}
+use Rattle.machine.specs.Requests.{Request}
 use Rattle.demands.specs.AnyOrder.{Between, Begins, worked}
 use Rattle.demands.proofs.Lent.{or-first, or-second, told, not-is}
 use Rattle.demands.proofs.AnyOrderMarks.{legal-none}
@@ -43,64 +44,58 @@ openingOf m w p = record {
   store = w .store;
 }
 
--- a tail's frame is the same whatever its input row holds
-pub frame-is : (m : Model) (w : Memory) (p : Play) → frameIn m (openingOf m w p) ≡ frameFor m (w .unit) p (w .store)
-unfolding frameFrom lineRows
-frame-is m w (apply t coefficients input) = refl
-frame-is m w tail = refl
-
-pub all-ok : (m : Model) (u : Hall) (lengths line turn : Bool) → inRange m u ≡ true → lengths ≡ true → line ≡ true → turn ≡ true
-    → judged m u lengths line turn ≡ Accepted
+pub all-ok : (m : Model) (u : UnitState) (slices line turn : Bool) → inRange m u ≡ true → slices ≡ true → line ≡ true → turn ≡ true
+    → judged m u slices line turn ≡ Accepted
 unfolding judged
-all-ok m u lengths line turn r l i t = rw (r, l, i, t) refl
+all-ok m u slices line turn r l i t = rw (r, l, i, t) refl
 
 -- what it tells of the unit and of what was lent; with an output of a frame's length the whole call is as good
 pub record Opened (m : Model) (w : Memory) (p : Play) : Type 0 where
   pub range : inRange m (w .unit) ≡ true
-  pub free : w .unit .busy ≡ false
-  pub store : length (w .store) ≡ storeLen m (w .unit .frame)
-  pub work : length (w .work) ≡ workLen m (w .unit .frame)
-  pub input : length (inputFor (w .unit) p) ≡ w .unit .frame
-  pub due : (output : List Float) → length output ≡ w .unit .frame → wholeDue m (w .unit) p (length (w .store)) (length (w .work)) (length output) ≡ Accepted
+  pub free : w .unit .held .busy ≡ false
+  pub store : length (w .store) ≡ storeLen m (lengths m (w .unit))
+  pub work : length (w .work) ≡ workLen m (w .unit .settings .frame)
+  pub input : length (inputFor (w .unit) p) ≡ w .unit .settings .frame
+  pub due : (output : List Float) → length output ≡ w .unit .settings .frame → wholeDue m (w .unit) p (length (w .store)) (length (w .work)) (length output) ≡ Accepted
 
 pub lent-ok : (m : Model) (w : Memory) (output : List Float) → storeOk m (w .unit) (length (w .store)) ≡ true → workOk m (w .unit) (length (w .work)) ≡ true
-    → length output ≡ w .unit .frame → lentOk m (w .unit) (length (w .store)) (length (w .work)) (length output) ≡ true
+    → length output ≡ w .unit .settings .frame → lentOk m (w .unit) (length (w .store)) (length (w .work)) (length output) ≡ true
 lent-ok m w output s k e = join-and s (join-and k (eq-eqb _ _ e))
 
 pub opened-told : (m : Model) (w : Memory) (p : Play) → answer m w (start p) ≡ Accepted → Opened m w p
-unfolding answer
+unfolding ending
 opened-told m w (apply t coefficients input) e =
     let u = w .unit in
     let given = givenOk m u (length coefficients) (length input) in
-    let lengths = storeOk m u (length (w .store)) && workOk m u (length (w .work)) in
-    let first = told m u (given && lengths) true (not (u .busy)) (or-first _ (judgedGiven t coefficients input) e) in
-    let q = split-and given lengths (first .lengths-ok) in
+    let slices = storeOk m u (length (w .store)) && workOk m u (length (w .work)) in
+    let first = told m u (given && slices) true (not (u .held .busy)) (or-first _ (judgedGiven t coefficients input) e) in
+    let q = split-and given slices (first .slices-ok) in
     let r = split-and (storeOk m u (length (w .store))) (workOk m u (length (w .work))) (q .1) in
-    let i = split-and (eqb (length coefficients) (coefficientsLen m)) (eqb (length input) (u .frame)) (q .0) in
+    let i = split-and (eqb (length coefficients) (coefficientsLen m)) (eqb (length input) (u .settings .frame)) (q .0) in
     record {
       range = first .range;
-      free = not-is (u .busy) (first .on-turn);
+      free = not-is (u .held .busy) (first .on-turn);
       store = eqb-true _ _ (r .0);
       work = eqb-true _ _ (r .1);
       input = eqb-true _ _ (i .1);
       due = λ output l.
-          let a = all-ok m u (given && lentOk m u (length (w .store)) (length (w .work)) (length output)) true (not (u .busy)) (first .range)
+          let a = all-ok m u (given && lentOk m u (length (w .store)) (length (w .work)) (length output)) true (not (u .held .busy)) (first .range)
           (join-and (q .0) (lent-ok m w output (r .0) (r .1) l)) refl (first .on-turn) in
-          rw a (or-second (judged m u (given && lengths) true (not (u .busy))) (judgedGiven t coefficients input) e);
+          rw a (or-second (judged m u (given && slices) true (not (u .held .busy))) (judgedGiven t coefficients input) e);
     }
 opened-told m w tail e =
     let u = w .unit in
-    let lengths = storeOk m u (length (w .store)) && workOk m u (length (w .work)) in
-    let first = told m u lengths true (not (u .busy)) e in
-    let r = split-and (storeOk m u (length (w .store))) (workOk m u (length (w .work))) (first .lengths-ok) in
+    let slices = storeOk m u (length (w .store)) && workOk m u (length (w .work)) in
+    let first = told m u slices true (not (u .held .busy)) e in
+    let r = split-and (storeOk m u (length (w .store))) (workOk m u (length (w .work))) (first .slices-ok) in
     record {
       range = first .range;
-      free = not-is (u .busy) (first .on-turn);
+      free = not-is (u .held .busy) (first .on-turn);
       store = eqb-true _ _ (r .0);
       work = eqb-true _ _ (r .1);
-      input = length-replicate (u .frame) +0;
+      input = length-replicate (u .settings .frame) +0;
       due = λ output l.
-          all-ok m u (lentOk m u (length (w .store)) (length (w .work)) (length output)) true (not (u .busy)) (first .range)
+          all-ok m u (lentOk m u (length (w .store)) (length (w .work)) (length output)) true (not (u .held .busy)) (first .range)
           (lent-ok m w output (r .0) (r .1) l) refl (first .on-turn);
     }
 
@@ -108,7 +103,7 @@ module _ (m : Model) (w : Memory) (p : Play) (begins : Begins m (w .unit)) (e : 
   abbrev o : Opening
   o = openingOf m w p
 
-  abbrev u : Hall
+  abbrev u : UnitState
   u = w .unit
 
   abbrev R : Frame
@@ -124,10 +119,10 @@ module _ (m : Model) (w : Memory) (p : Play) (begins : Begins m (w .unit)) (e : 
   pub fit : Fit m o
   unfolding inRange
   fit =
-      let sizes = split-and (rateOk (u .rate) && frameOk (u .frame)) _ (tells .range) in
+      let sizes = split-and (rateOk (u .settings .rate) && frameOk (u .settings .frame)) _ (tells .range) in
       record {
         passes = begins .passes;
-        fours = frame-of (u .frame) (split-and (rateOk (u .rate)) (frameOk (u .frame)) (sizes .0) .1) .fours;
+        fours = frame-of (u .settings .frame) (split-and (rateOk (u .settings .rate)) (frameOk (u .settings .frame)) (sizes .0) .1) .fours;
         filters = filters-long p;
         input = tells .input;
         store = tells .store;
@@ -135,14 +130,9 @@ module _ (m : Model) (w : Memory) (p : Play) (begins : Begins m (w .unit)) (e : 
 
   -- it gives the memory with no mark
   pub begun : after m w (start p) ≡ memoryAt m o (replicate (jobsLen m) false)
-  unfolding after
+  unfolding ending
   begun =
-      let new : Memory = record {
-        unit = opened m u p;
-        store = w .store;
-        work = openWork m u (inputFor u p) (w .store);
-      } in
-      ap (λ (a : Answer). accept a new w) e
+      ap (λ (a : Answer). accept a (memoryOpened m w p) w) e
       ∙ (λ t. record { unit = unitWith o (sym (none-filters m o) t) (replicate (jobsLen m) false); store = w .store; work = none-work m o t })
 
   -- and any requests lead on to the memory at some marks
@@ -154,6 +144,6 @@ module _ (m : Model) (w : Memory) (p : Play) (begins : Begins m (w .unit)) (e : 
   pub still-in-range : (fs : List Filter) (marks : List Bool) → inRange m (unitWith o fs marks) ≡ true
   unfolding inRange
   still-in-range fs marks =
-      let sizes = split-and (rateOk (u .rate) && frameOk (u .frame)) _ (tells .range) in
-      let cursors = split-and (linesOk m (u .frame) (u .lines) && passesOk m (u .passes)) _ (sizes .1) in
+      let sizes = split-and (rateOk (u .settings .rate) && frameOk (u .settings .frame)) _ (tells .range) in
+      let cursors = split-and (cursorsIn (lengths m u) (u .cursors .lines) && cursorsIn (m .passes) (u .cursors .passes)) _ (sizes .1) in
       join-and (sizes .0) (join-and (cursors .0) refl)

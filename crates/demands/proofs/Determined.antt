@@ -1,11 +1,11 @@
--- "A contract determines the result and every lent float afterwards, for all arguments, refusals too": of each public function, over its
--- own contract. A theorem is named after the crate and the function, and where it speaks of a slice at exit after that too. Assumes nothing.
+-- A contract determines the result and every lent float afterwards: one theorem for each public function of the library, over its real
+-- contract. Each is read off the contract's shape: a clause for the result and one for each slice lent. Assumes nothing.
 use mathlib.Core.Path.{_≡_, sym, _∙_}
 use lib.ListN.{getD}
-use denote.Ref.{now}
 use Rattle.lanes.specs.declared.bank.FourBands.{FourBands}
 use Rattle.bank.specs.Lines.{lines}
-use Rattle.demands.specs.Determined.{OneResult, OneValue, OneExit}
+use denote.Ref.{now}
+use Rattle.demands.specs.Determined.{Determined, DeterminedExit, DeterminedWith1, DeterminedWith3, OneValue}
 use Rattle.samples.proofs.number.Kinds as samples-number-kinds
 use Rattle.samples.proofs.number.Reads as samples-number-reads
 use Rattle.samples.proofs.index.Kinds as samples-index-kinds
@@ -56,14 +56,32 @@ use Rattle.iir.proofs.is_finite.Kinds as iir-is-finite-kinds
 use Rattle.iir.proofs.is_finite.Reads as iir-is-finite-reads
 use Rattle.iir.proofs.is_blank.Kinds as iir-is-blank-kinds
 use Rattle.iir.proofs.is_blank.Reads as iir-is-blank-reads
+use Rattle.lanes.proofs.by_band.Kinds as lanes-by-band-kinds
+use Rattle.lanes.proofs.by_band.Reads as lanes-by-band-reads
+use Rattle.lanes.proofs.bands_at.Kinds as lanes-bands-at-kinds
+use Rattle.lanes.proofs.bands_at.Reads as lanes-bands-at-reads
+use Rattle.lanes.proofs.step_bank.Kinds as lanes-step-bank-kinds
+use Rattle.lanes.proofs.step_bank.Reads as lanes-step-bank-reads
+use Rattle.lanes.proofs.pack.Kinds as lanes-pack-kinds
+use Rattle.lanes.proofs.pack.Reads as lanes-pack-reads
+use Rattle.lanes.proofs.lane.Kinds as lanes-lane-kinds
+use Rattle.lanes.proofs.lane.Reads as lanes-lane-reads
+use Rattle.lanes.proofs.step.Kinds as lanes-step-kinds
+use Rattle.lanes.proofs.step.Reads as lanes-step-reads
+use Rattle.bank.proofs.four_lines.Kinds as bank-four-lines-kinds
+use Rattle.bank.proofs.four_lines.Reads as bank-four-lines-reads
+use Rattle.bank.proofs.one_line.Kinds as bank-one-line-kinds
+use Rattle.bank.proofs.one_line.Reads as bank-one-line-reads
 use Rattle.hadamard.proofs.minus.Kinds as hadamard-minus-kinds
 use Rattle.hadamard.proofs.minus.Reads as hadamard-minus-reads
-use Rattle.hadamard.proofs.plus_minus.Kinds as hadamard-plus-minus-kinds
-use Rattle.hadamard.proofs.plus_minus.Reads as hadamard-plus-minus-reads
 use Rattle.hadamard.proofs.mix_sample.Kinds as hadamard-mix-sample-kinds
 use Rattle.hadamard.proofs.mix_sample.Reads as hadamard-mix-sample-reads
+use Rattle.hadamard.proofs.plus_minus.Kinds as hadamard-plus-minus-kinds
+use Rattle.hadamard.proofs.plus_minus.Reads as hadamard-plus-minus-reads
 use Rattle.mixer.proofs.mix_rows.Kinds as mixer-mix-rows-kinds
 use Rattle.mixer.proofs.mix_rows.Reads as mixer-mix-rows-reads
+use Rattle.allpass.proofs.pass_stage.Kinds as allpass-pass-stage-kinds
+use Rattle.allpass.proofs.pass_stage.Reads as allpass-pass-stage-reads
 use Rattle.bands.proofs.time_ok.Kinds as bands-time-ok-kinds
 use Rattle.bands.proofs.time_ok.Reads as bands-time-ok-reads
 use Rattle.bands.proofs.times_ok.Kinds as bands-times-ok-kinds
@@ -72,6 +90,8 @@ use Rattle.bands.proofs.largest.Kinds as bands-largest-kinds
 use Rattle.bands.proofs.largest.Reads as bands-largest-reads
 use Rattle.bands.proofs.tail_count.Kinds as bands-tail-count-kinds
 use Rattle.bands.proofs.tail_count.Reads as bands-tail-count-reads
+use Rattle.bands.proofs.fallen.Kinds as bands-fallen-kinds
+use Rattle.bands.proofs.fallen.Reads as bands-fallen-reads
 use Rattle.primes.proofs.prime.Kinds as primes-prime-kinds
 use Rattle.primes.proofs.prime.Reads as primes-prime-reads
 use Rattle.primes.proofs.delay.Kinds as primes-delay-kinds
@@ -114,8 +134,26 @@ use Rattle.wire.proofs.decode.Kinds as wire-decode-kinds
 use Rattle.wire.proofs.decode.Reads as wire-decode-reads
 use Rattle.wire.proofs.encode.Kinds as wire-encode-kinds
 use Rattle.wire.proofs.encode.Reads as wire-encode-reads
-use Rattle.judges.proofs.judge.Kinds as judges-judge-kinds
-use Rattle.judges.proofs.judge.Reads as judges-judge-reads
+use Rattle.unit.proofs.fresh_state.Kinds as unit-fresh-state-kinds
+use Rattle.unit.proofs.fresh_state.Reads as unit-fresh-state-reads
+use Rattle.unit.proofs.quiet.Kinds as unit-quiet-kinds
+use Rattle.unit.proofs.quiet.Reads as unit-quiet-reads
+use Rattle.unit.proofs.lent_ok.Kinds as unit-lent-ok-kinds
+use Rattle.unit.proofs.lent_ok.Reads as unit-lent-ok-reads
+use Rattle.unit.proofs.rings_hold.Kinds as unit-rings-hold-kinds
+use Rattle.unit.proofs.rings_hold.Reads as unit-rings-hold-reads
+use Rattle.unit.proofs.room_ok.Kinds as unit-room-ok-kinds
+use Rattle.unit.proofs.room_ok.Reads as unit-room-ok-reads
+use Rattle.unit.proofs.in_range.Kinds as unit-in-range-kinds
+use Rattle.unit.proofs.in_range.Reads as unit-in-range-reads
+use Rattle.unit.proofs.lengths.Kinds as unit-lengths-kinds
+use Rattle.unit.proofs.lengths.Reads as unit-lengths-reads
+use Rattle.unit.proofs.store_ok.Kinds as unit-store-ok-kinds
+use Rattle.unit.proofs.store_ok.Reads as unit-store-ok-reads
+use Rattle.unit.proofs.work_ok.Kinds as unit-work-ok-kinds
+use Rattle.unit.proofs.work_ok.Reads as unit-work-ok-reads
+use Rattle.unit.proofs.is_store.Kinds as unit-is-store-kinds
+use Rattle.unit.proofs.is_store.Reads as unit-is-store-reads
 use Rattle.judges.proofs.judge_fresh.Kinds as judges-judge-fresh-kinds
 use Rattle.judges.proofs.judge_fresh.Reads as judges-judge-fresh-reads
 use Rattle.judges.proofs.judge_reset.Kinds as judges-judge-reset-kinds
@@ -124,80 +162,60 @@ use Rattle.judges.proofs.judge_tail.Kinds as judges-judge-tail-kinds
 use Rattle.judges.proofs.judge_tail.Reads as judges-judge-tail-reads
 use Rattle.judges.proofs.judge_apply.Kinds as judges-judge-apply-kinds
 use Rattle.judges.proofs.judge_apply.Reads as judges-judge-apply-reads
-use Rattle.judges.proofs.judge_given.Kinds as judges-judge-given-kinds
-use Rattle.judges.proofs.judge_given.Reads as judges-judge-given-reads
-use Rattle.unit.proofs.room_ok.Kinds as unit-room-ok-kinds
-use Rattle.unit.proofs.room_ok.Reads as unit-room-ok-reads
-use Rattle.unit.proofs.fresh_state.Kinds as unit-fresh-state-kinds
-use Rattle.unit.proofs.fresh_state.Reads as unit-fresh-state-reads
-use Rattle.unit.proofs.in_range.Kinds as unit-in-range-kinds
-use Rattle.unit.proofs.in_range.Reads as unit-in-range-reads
-use Rattle.unit.proofs.store_ok.Kinds as unit-store-ok-kinds
-use Rattle.unit.proofs.store_ok.Reads as unit-store-ok-reads
-use Rattle.unit.proofs.work_ok.Kinds as unit-work-ok-kinds
-use Rattle.unit.proofs.work_ok.Reads as unit-work-ok-reads
-use Rattle.allpass.proofs.pass_stage.Kinds as allpass-pass-stage-kinds
-use Rattle.allpass.proofs.pass_stage.Reads as allpass-pass-stage-reads
-use Rattle.frame.proofs.add_first.Kinds as frame-add-first-kinds
-use Rattle.frame.proofs.add_first.Reads as frame-add-first-reads
-use Rattle.frame.proofs.divide.Kinds as frame-divide-kinds
-use Rattle.frame.proofs.divide.Reads as frame-divide-reads
-use Rattle.frame.proofs.copy.Kinds as frame-copy-kinds
-use Rattle.frame.proofs.copy.Reads as frame-copy-reads
-use Rattle.frame.proofs.filters_finite.Kinds as frame-filters-finite-kinds
-use Rattle.frame.proofs.filters_finite.Reads as frame-filters-finite-reads
-use Rattle.filters.proofs.filters_of.Kinds as filters-filters-of-kinds
-use Rattle.filters.proofs.filters_of.Reads as filters-filters-of-reads
-use Rattle.lines.proofs.run_frame.Kinds as lines-run-frame-kinds
-use Rattle.lines.proofs.run_frame.Reads as lines-run-frame-reads
-use Rattle.silence.proofs.fresh.Kinds as silence-fresh-kinds
-use Rattle.silence.proofs.fresh.Reads as silence-fresh-reads
-use Rattle.silence.proofs.reset.Kinds as silence-reset-kinds
-use Rattle.silence.proofs.reset.Reads as silence-reset-reads
-use Rattle.reverb.proofs.apply.Kinds as reverb-apply-kinds
-use Rattle.reverb.proofs.apply.Reads as reverb-apply-reads
-use Rattle.reverb.proofs.tail.Kinds as reverb-tail-kinds
-use Rattle.reverb.proofs.tail.Reads as reverb-tail-reads
-use Rattle.unit.proofs.lent_ok.Kinds as unit-lent-ok-kinds
-use Rattle.unit.proofs.lent_ok.Reads as unit-lent-ok-reads
-use Rattle.judges.proofs.or_else.Kinds as judges-or-else-kinds
-use Rattle.judges.proofs.or_else.Reads as judges-or-else-reads
-use Rattle.turns.proofs.judge_open_apply.Kinds as turns-judge-open-apply-kinds
-use Rattle.turns.proofs.judge_open_apply.Reads as turns-judge-open-apply-reads
-use Rattle.turns.proofs.judge_open_tail.Kinds as turns-judge-open-tail-kinds
-use Rattle.turns.proofs.judge_open_tail.Reads as turns-judge-open-tail-reads
-use Rattle.turns.proofs.judge_read.Kinds as turns-judge-read-kinds
-use Rattle.turns.proofs.judge_read.Reads as turns-judge-read-reads
-use Rattle.turns.proofs.judge_mix.Kinds as turns-judge-mix-kinds
-use Rattle.turns.proofs.judge_mix.Reads as turns-judge-mix-reads
-use Rattle.turns.proofs.judge_line.Kinds as turns-judge-line-kinds
-use Rattle.turns.proofs.judge_line.Reads as turns-judge-line-reads
-use Rattle.turns.proofs.judge_output.Kinds as turns-judge-output-kinds
-use Rattle.turns.proofs.judge_output.Reads as turns-judge-output-reads
-use Rattle.turns.proofs.judge_close.Kinds as turns-judge-close-kinds
-use Rattle.turns.proofs.judge_close.Reads as turns-judge-close-reads
-use Rattle.turns.proofs.judge_abandon.Kinds as turns-judge-abandon-kinds
-use Rattle.turns.proofs.judge_abandon.Reads as turns-judge-abandon-reads
-use Rattle.lines.proofs.close_frame.Kinds as lines-close-frame-kinds
-use Rattle.lines.proofs.close_frame.Reads as lines-close-frame-reads
+use Rattle.judges.proofs.judge_open_apply.Kinds as judges-judge-open-apply-kinds
+use Rattle.judges.proofs.judge_open_apply.Reads as judges-judge-open-apply-reads
+use Rattle.judges.proofs.judge_open_tail.Kinds as judges-judge-open-tail-kinds
+use Rattle.judges.proofs.judge_open_tail.Reads as judges-judge-open-tail-reads
+use Rattle.judges.proofs.judge_read.Kinds as judges-judge-read-kinds
+use Rattle.judges.proofs.judge_read.Reads as judges-judge-read-reads
+use Rattle.judges.proofs.judge_mix.Kinds as judges-judge-mix-kinds
+use Rattle.judges.proofs.judge_mix.Reads as judges-judge-mix-reads
+use Rattle.judges.proofs.judge_line.Kinds as judges-judge-line-kinds
+use Rattle.judges.proofs.judge_line.Reads as judges-judge-line-reads
+use Rattle.judges.proofs.judge_output.Kinds as judges-judge-output-kinds
+use Rattle.judges.proofs.judge_output.Reads as judges-judge-output-reads
+use Rattle.judges.proofs.judge_close.Kinds as judges-judge-close-kinds
+use Rattle.judges.proofs.judge_close.Reads as judges-judge-close-reads
+use Rattle.judges.proofs.judge_abandon.Kinds as judges-judge-abandon-kinds
+use Rattle.judges.proofs.judge_abandon.Reads as judges-judge-abandon-reads
+use Rattle.stages.proofs.add_first.Kinds as stages-add-first-kinds
+use Rattle.stages.proofs.add_first.Reads as stages-add-first-reads
+use Rattle.stages.proofs.divide.Kinds as stages-divide-kinds
+use Rattle.stages.proofs.divide.Reads as stages-divide-reads
+use Rattle.stages.proofs.copy.Kinds as stages-copy-kinds
+use Rattle.stages.proofs.copy.Reads as stages-copy-reads
+use Rattle.stages.proofs.filters_finite.Kinds as stages-filters-finite-kinds
+use Rattle.stages.proofs.filters_finite.Reads as stages-filters-finite-reads
 use Rattle.rows.proofs.line_rows.Kinds as rows-line-rows-kinds
 use Rattle.rows.proofs.line_rows.Reads as rows-line-rows-reads
 use Rattle.rows.proofs.make_line.Kinds as rows-make-line-kinds
 use Rattle.rows.proofs.make_line.Reads as rows-make-line-reads
+use Rattle.rows.proofs.read_line.Kinds as rows-read-line-kinds
+use Rattle.rows.proofs.read_line.Reads as rows-read-line-reads
+use Rattle.rows.proofs.output_fits.Kinds as rows-output-fits-kinds
+use Rattle.rows.proofs.output_fits.Reads as rows-output-fits-reads
+use Rattle.rows.proofs.work_for.Kinds as rows-work-for-kinds
+use Rattle.rows.proofs.work_for.Reads as rows-work-for-reads
+use Rattle.rows.proofs.three_at.Kinds as rows-three-at-kinds
+use Rattle.rows.proofs.three_at.Reads as rows-three-at-reads
 use Rattle.outputs.proofs.output_row.Kinds as outputs-output-row-kinds
 use Rattle.outputs.proofs.output_row.Reads as outputs-output-row-reads
 use Rattle.outputs.proofs.make_output.Kinds as outputs-make-output-kinds
 use Rattle.outputs.proofs.make_output.Reads as outputs-make-output-reads
-use Rattle.reads.proofs.read_line.Kinds as reads-read-line-kinds
-use Rattle.reads.proofs.read_line.Reads as reads-read-line-reads
-use Rattle.silence.proofs.quiet.Kinds as silence-quiet-kinds
-use Rattle.silence.proofs.quiet.Reads as silence-quiet-reads
-use Rattle.silence.proofs.fallen.Kinds as silence-fallen-kinds
-use Rattle.silence.proofs.fallen.Reads as silence-fallen-reads
-use Rattle.closing.proofs.close.Kinds as closing-close-kinds
-use Rattle.closing.proofs.close.Reads as closing-close-reads
-use Rattle.closing.proofs.abandon.Kinds as closing-abandon-kinds
-use Rattle.closing.proofs.abandon.Reads as closing-abandon-reads
+use Rattle.frame.proofs.run_frame.Kinds as frame-run-frame-kinds
+use Rattle.frame.proofs.run_frame.Reads as frame-run-frame-reads
+use Rattle.frame.proofs.close_frame.Kinds as frame-close-frame-kinds
+use Rattle.frame.proofs.close_frame.Reads as frame-close-frame-reads
+use Rattle.reverb.proofs.fresh.Kinds as reverb-fresh-kinds
+use Rattle.reverb.proofs.fresh.Reads as reverb-fresh-reads
+use Rattle.reverb.proofs.reset.Kinds as reverb-reset-kinds
+use Rattle.reverb.proofs.reset.Reads as reverb-reset-reads
+use Rattle.reverb.proofs.apply.Kinds as reverb-apply-kinds
+use Rattle.reverb.proofs.apply.Reads as reverb-apply-reads
+use Rattle.reverb.proofs.tail.Kinds as reverb-tail-kinds
+use Rattle.reverb.proofs.tail.Reads as reverb-tail-reads
+use Rattle.reverb.proofs.filters_of.Kinds as reverb-filters-of-kinds
+use Rattle.reverb.proofs.filters_of.Reads as reverb-filters-of-reads
 use Rattle.opening.proofs.open_apply.Kinds as opening-open-apply-kinds
 use Rattle.opening.proofs.open_apply.Reads as opening-open-apply-reads
 use Rattle.opening.proofs.open_tail.Kinds as opening-open-tail-kinds
@@ -210,152 +228,113 @@ use Rattle.jobs.proofs.job_line.Kinds as jobs-job-line-kinds
 use Rattle.jobs.proofs.job_line.Reads as jobs-job-line-reads
 use Rattle.jobs.proofs.job_output.Kinds as jobs-job-output-kinds
 use Rattle.jobs.proofs.job_output.Reads as jobs-job-output-reads
-use Rattle.lanes.proofs.pack.Kinds as lanes-pack-kinds
-use Rattle.lanes.proofs.pack.Reads as lanes-pack-reads
-use Rattle.lanes.proofs.lane.Kinds as lanes-lane-kinds
-use Rattle.lanes.proofs.lane.Reads as lanes-lane-reads
-use Rattle.lanes.proofs.step.Kinds as lanes-step-kinds
-use Rattle.lanes.proofs.step.Reads as lanes-step-reads
-use Rattle.lanes.proofs.by_band.Kinds as lanes-by-band-kinds
-use Rattle.lanes.proofs.by_band.Reads as lanes-by-band-reads
-use Rattle.lanes.proofs.bands_at.Kinds as lanes-bands-at-kinds
-use Rattle.lanes.proofs.bands_at.Reads as lanes-bands-at-reads
-use Rattle.lanes.proofs.step_bank.Kinds as lanes-step-bank-kinds
-use Rattle.lanes.proofs.step_bank.Reads as lanes-step-bank-reads
-use Rattle.bank.proofs.one_line.Kinds as bank-one-line-kinds
-use Rattle.bank.proofs.one_line.Reads as bank-one-line-reads
-use Rattle.rows.proofs.three_at.Kinds as rows-three-at-kinds
-use Rattle.rows.proofs.three_at.Reads as rows-three-at-reads
-use Rattle.rows.proofs.output_fits.Kinds as rows-output-fits-kinds
-use Rattle.rows.proofs.output_fits.Reads as rows-output-fits-reads
-use Rattle.rows.proofs.work_for.Kinds as rows-work-for-kinds
-use Rattle.rows.proofs.work_for.Reads as rows-work-for-reads
-use Rattle.bank.proofs.four_lines.Kinds as bank-four-lines-kinds
-use Rattle.bank.proofs.four_lines.Reads as bank-four-lines-reads
+use Rattle.closing.proofs.close.Kinds as closing-close-kinds
+use Rattle.closing.proofs.close.Reads as closing-close-reads
+use Rattle.closing.proofs.abandon.Kinds as closing-abandon-kinds
+use Rattle.closing.proofs.abandon.Reads as closing-abandon-reads
 
 -- ---- samples
 
-pub samples-number : OneResult 0 samples-number-kinds.ps samples-number-kinds.r samples-number-reads.Post
-samples-number κs a x y s t p q = p ∙ sym (q)
+pub samples-number : Determined 0 samples-number-kinds.ps samples-number-kinds.r samples-number-reads.Post
+samples-number κs a x y s t p q = p ∙ sym q
 
-pub samples-index : OneResult 0 samples-index-kinds.ps samples-index-kinds.r samples-index-reads.Post
-samples-index κs a x y s t p q = p ∙ sym (q)
+pub samples-index : Determined 0 samples-index-kinds.ps samples-index-kinds.r samples-index-reads.Post
+samples-index κs a x y s t p q = p ∙ sym q
 
-pub samples-is-accepted : OneResult 0 samples-is-accepted-kinds.ps samples-is-accepted-kinds.r samples-is-accepted-reads.Post
-samples-is-accepted κs a x y s t p q = p ∙ sym (q)
+pub samples-is-accepted : Determined 0 samples-is-accepted-kinds.ps samples-is-accepted-kinds.r samples-is-accepted-reads.Post
+samples-is-accepted κs a x y s t p q = p ∙ sym q
 
-pub samples-need : OneResult 0 samples-need-kinds.ps samples-need-kinds.r samples-need-reads.Post
-samples-need κs a x y s t p q = p ∙ sym (q)
+pub samples-need : Determined 0 samples-need-kinds.ps samples-need-kinds.r samples-need-reads.Post
+samples-need κs a x y s t p q = p ∙ sym q
 
-pub samples-and : OneResult 0 samples-and-kinds.ps samples-and-kinds.r samples-and-reads.Post
-samples-and κs a x y s t p q = p ∙ sym (q)
+pub samples-and : Determined 0 samples-and-kinds.ps samples-and-kinds.r samples-and-reads.Post
+samples-and κs a x y s t p q = p ∙ sym q
 
-pub samples-rate-ok : OneResult 0 samples-rate-ok-kinds.ps samples-rate-ok-kinds.r samples-rate-ok-reads.Post
-samples-rate-ok κs a x y s t p q = p ∙ sym (q)
+pub samples-rate-ok : Determined 0 samples-rate-ok-kinds.ps samples-rate-ok-kinds.r samples-rate-ok-reads.Post
+samples-rate-ok κs a x y s t p q = p ∙ sym q
 
-pub samples-frame-ok : OneResult 0 samples-frame-ok-kinds.ps samples-frame-ok-kinds.r samples-frame-ok-reads.Post
-samples-frame-ok κs a x y s t p q = p ∙ sym (q)
+pub samples-frame-ok : Determined 0 samples-frame-ok-kinds.ps samples-frame-ok-kinds.r samples-frame-ok-reads.Post
+samples-frame-ok κs a x y s t p q = p ∙ sym q
 
-pub samples-is-finite : OneResult 0 samples-is-finite-kinds.ps samples-is-finite-kinds.r samples-is-finite-reads.Post
-samples-is-finite κs a x y s t p q = p ∙ sym (q)
+pub samples-is-finite : Determined 0 samples-is-finite-kinds.ps samples-is-finite-kinds.r samples-is-finite-reads.Post
+samples-is-finite κs a x y s t p q = p ∙ sym q
 
-pub samples-is-plus-zero : OneResult 0 samples-is-plus-zero-kinds.ps samples-is-plus-zero-kinds.r samples-is-plus-zero-reads.Post
-samples-is-plus-zero κs a x y s t p q = p ∙ sym (q)
+pub samples-is-plus-zero : Determined 0 samples-is-plus-zero-kinds.ps samples-is-plus-zero-kinds.r samples-is-plus-zero-reads.Post
+samples-is-plus-zero κs a x y s t p q = p ∙ sym q
 
-pub samples-clear-xs : OneExit 1 samples-clear-kinds.ps samples-clear-kinds.r samples-clear-reads.Post (λ κs s. s .0 .now)
-samples-clear-xs κs a x y s t p q = p ∙ sym (q)
+pub samples-clear : DeterminedExit 1 samples-clear-kinds.ps samples-clear-kinds.r samples-clear-reads.Post (λ κs s. s .0 .now)
+samples-clear κs a x y s t p q = p ∙ sym q
 
 -- ---- search
 
-pub search-first-bad : OneResult 1 search-first-bad-kinds.ps search-first-bad-kinds.r search-first-bad-reads.Post
-search-first-bad κs a x y s t p q = p ∙ sym (q)
+pub search-first-bad : Determined 1 search-first-bad-kinds.ps search-first-bad-kinds.r search-first-bad-reads.Post
+search-first-bad κs a x y s t p q = p ∙ sym q
 
-pub search-is-nothing : OneResult 0 search-is-nothing-kinds.ps search-is-nothing-kinds.r search-is-nothing-reads.Post
-search-is-nothing κs a x y s t p q = p ∙ sym (q)
+pub search-is-nothing : Determined 0 search-is-nothing-kinds.ps search-is-nothing-kinds.r search-is-nothing-reads.Post
+search-is-nothing κs a x y s t p q = p ∙ sym q
 
-pub search-all-finite : OneResult 1 search-all-finite-kinds.ps search-all-finite-kinds.r search-all-finite-reads.Post
-search-all-finite κs a x y s t p q = p ∙ sym (q)
+pub search-all-finite : Determined 1 search-all-finite-kinds.ps search-all-finite-kinds.r search-all-finite-reads.Post
+search-all-finite κs a x y s t p q = p ∙ sym q
 
 -- ---- delay
 
-pub delay-fresh : OneResult 1 delay-fresh-kinds.ps delay-fresh-kinds.r delay-fresh-reads.Post
-delay-fresh κs a x y s t p q = p .0 ∙ sym (q .0)
+pub delay-fresh : DeterminedWith1 1 delay-fresh-kinds.ps delay-fresh-kinds.r delay-fresh-reads.Post (λ κs s. s .0 .now)
+delay-fresh κs a x y s t p q = (p .0 ∙ sym (q .0), p .1 ∙ sym (q .1))
 
-pub delay-fresh-ring : OneExit 1 delay-fresh-kinds.ps delay-fresh-kinds.r delay-fresh-reads.Post (λ κs s. s .0 .now)
-delay-fresh-ring κs a x y s t p q = p .1 ∙ sym (q .1)
+pub delay-reset : DeterminedWith1 1 delay-reset-kinds.ps delay-reset-kinds.r delay-reset-reads.Post (λ κs s. s .0 .now)
+delay-reset κs a x y s t p q = (p .0 ∙ sym (q .0), p .1 ∙ sym (q .1))
 
-pub delay-reset : OneResult 1 delay-reset-kinds.ps delay-reset-kinds.r delay-reset-reads.Post
-delay-reset κs a x y s t p q = p .0 ∙ sym (q .0)
+pub delay-get : DeterminedWith1 2 delay-get-kinds.ps delay-get-kinds.r delay-get-reads.Post (λ κs s. s .1 .1 .0 .now)
+delay-get κs a x y s t p q = (p .0 ∙ sym (q .0), p .1 ∙ sym (q .1))
 
-pub delay-reset-ring : OneExit 1 delay-reset-kinds.ps delay-reset-kinds.r delay-reset-reads.Post (λ κs s. s .0 .now)
-delay-reset-ring κs a x y s t p q = p .1 ∙ sym (q .1)
+pub delay-put : DeterminedWith1 2 delay-put-kinds.ps delay-put-kinds.r delay-put-reads.Post (λ κs s. s .0 .now)
+delay-put κs a x y s t p q = (p .0 ∙ sym (q .0), p .1 ∙ sym (q .1))
 
-pub delay-get : OneResult 2 delay-get-kinds.ps delay-get-kinds.r delay-get-reads.Post
-delay-get κs a x y s t p q = p .0 ∙ sym (q .0)
+pub delay-get4 : Determined 1 delay-get4-kinds.ps delay-get4-kinds.r delay-get4-reads.Post
+delay-get4 κs a x y s t p q = p ∙ sym q
 
-pub delay-get-out : OneExit 2 delay-get-kinds.ps delay-get-kinds.r delay-get-reads.Post (λ κs s. s .1 .1 .0 .now)
-delay-get-out κs a x y s t p q = p .1 ∙ sym (q .1)
-
-pub delay-put : OneResult 2 delay-put-kinds.ps delay-put-kinds.r delay-put-reads.Post
-delay-put κs a x y s t p q = p .0 ∙ sym (q .0)
-
-pub delay-put-ring : OneExit 2 delay-put-kinds.ps delay-put-kinds.r delay-put-reads.Post (λ κs s. s .0 .now)
-delay-put-ring κs a x y s t p q = p .1 ∙ sym (q .1)
-
-pub delay-get4 : OneResult 1 delay-get4-kinds.ps delay-get4-kinds.r delay-get4-reads.Post
-delay-get4 κs a x y s t p q = p ∙ sym (q)
-
-pub delay-put4 : OneResult 1 delay-put4-kinds.ps delay-put4-kinds.r delay-put4-reads.Post
-delay-put4 κs a x y s t p q = p .0 ∙ sym (q .0)
-
-pub delay-put4-ring : OneExit 1 delay-put4-kinds.ps delay-put4-kinds.r delay-put4-reads.Post (λ κs s. s .0 .now)
-delay-put4-ring κs a x y s t p q = p .1 ∙ sym (q .1)
+pub delay-put4 : DeterminedWith1 1 delay-put4-kinds.ps delay-put4-kinds.r delay-put4-reads.Post (λ κs s. s .0 .now)
+delay-put4 κs a x y s t p q = (p .0 ∙ sym (q .0), p .1 ∙ sym (q .1))
 
 -- ---- iir
 
-pub iir-new-from-coefficients : OneResult 0 iir-new-from-coefficients-kinds.ps iir-new-from-coefficients-kinds.r iir-new-from-coefficients-reads.Post
-iir-new-from-coefficients κs a x y s t p q = p ∙ sym (q)
+pub iir-new-from-coefficients : Determined 0 iir-new-from-coefficients-kinds.ps iir-new-from-coefficients-kinds.r iir-new-from-coefficients-reads.Post
+iir-new-from-coefficients κs a x y s t p q = p ∙ sym q
 
-pub iir-filtered : OneResult 0 iir-filtered-kinds.ps iir-filtered-kinds.r iir-filtered-reads.Post
-iir-filtered κs a x y s t p q = p ∙ sym (q)
+pub iir-filtered : Determined 0 iir-filtered-kinds.ps iir-filtered-kinds.r iir-filtered-reads.Post
+iir-filtered κs a x y s t p q = p ∙ sym q
 
-pub iir-run : OneResult 1 iir-run-kinds.ps iir-run-kinds.r iir-run-reads.Post
-iir-run κs a x y s t p q = p .0 ∙ sym (q .0)
+pub iir-run : DeterminedWith1 1 iir-run-kinds.ps iir-run-kinds.r iir-run-reads.Post (λ κs s. s .1 .0 .now)
+iir-run κs a x y s t p q = (p .0 ∙ sym (q .0), p .1 ∙ sym (q .1))
 
-pub iir-run-xs : OneExit 1 iir-run-kinds.ps iir-run-kinds.r iir-run-reads.Post (λ κs s. s .1 .0 .now)
-iir-run-xs κs a x y s t p q = p .1 ∙ sym (q .1)
+pub iir-three-bands : DeterminedWith1 1 iir-three-bands-kinds.ps iir-three-bands-kinds.r iir-three-bands-reads.Post (λ κs s. s .1 .0 .now)
+iir-three-bands κs a x y s t p q = (p .0 ∙ sym (q .0), p .1 ∙ sym (q .1))
 
-pub iir-three-bands : OneResult 1 iir-three-bands-kinds.ps iir-three-bands-kinds.r iir-three-bands-reads.Post
-iir-three-bands κs a x y s t p q = p .0 ∙ sym (q .0)
+pub iir-is-finite : Determined 0 iir-is-finite-kinds.ps iir-is-finite-kinds.r iir-is-finite-reads.Post
+iir-is-finite κs a x y s t p q = p ∙ sym q
 
-pub iir-three-bands-xs : OneExit 1 iir-three-bands-kinds.ps iir-three-bands-kinds.r iir-three-bands-reads.Post (λ κs s. s .1 .0 .now)
-iir-three-bands-xs κs a x y s t p q = p .1 ∙ sym (q .1)
-
-pub iir-is-finite : OneResult 0 iir-is-finite-kinds.ps iir-is-finite-kinds.r iir-is-finite-reads.Post
-iir-is-finite κs a x y s t p q = p ∙ sym (q)
-
-pub iir-is-blank : OneResult 0 iir-is-blank-kinds.ps iir-is-blank-kinds.r iir-is-blank-reads.Post
-iir-is-blank κs a x y s t p q = p ∙ sym (q)
+pub iir-is-blank : Determined 0 iir-is-blank-kinds.ps iir-is-blank-kinds.r iir-is-blank-reads.Post
+iir-is-blank κs a x y s t p q = p ∙ sym q
 
 -- ---- lanes
 
-pub lanes-pack : OneResult 0 lanes-pack-kinds.ps lanes-pack-kinds.r lanes-pack-reads.Post
-lanes-pack κs a x y s t p q = p ∙ sym (q)
+pub lanes-by-band : Determined 0 lanes-by-band-kinds.ps lanes-by-band-kinds.r lanes-by-band-reads.Post
+lanes-by-band κs a x y s t p q = p ∙ sym q
 
-pub lanes-lane : OneResult 0 lanes-lane-kinds.ps lanes-lane-kinds.r lanes-lane-reads.Post
-lanes-lane κs a x y s t p q = p ∙ sym (q)
+pub lanes-bands-at : Determined 0 lanes-bands-at-kinds.ps lanes-bands-at-kinds.r lanes-bands-at-reads.Post
+lanes-bands-at κs a x y s t p q = p ∙ sym q
 
-pub lanes-step : OneResult 0 lanes-step-kinds.ps lanes-step-kinds.r lanes-step-reads.Post
-lanes-step κs a x y s t p q = p ∙ sym (q)
+pub lanes-step-bank : Determined 0 lanes-step-bank-kinds.ps lanes-step-bank-kinds.r lanes-step-bank-reads.Post
+lanes-step-bank κs a x y s t p q = p ∙ sym q
 
-pub lanes-by-band : OneResult 0 lanes-by-band-kinds.ps lanes-by-band-kinds.r lanes-by-band-reads.Post
-lanes-by-band κs a x y s t p q = p ∙ sym (q)
+pub lanes-pack : Determined 0 lanes-pack-kinds.ps lanes-pack-kinds.r lanes-pack-reads.Post
+lanes-pack κs a x y s t p q = p ∙ sym q
 
-pub lanes-bands-at : OneResult 0 lanes-bands-at-kinds.ps lanes-bands-at-kinds.r lanes-bands-at-reads.Post
-lanes-bands-at κs a x y s t p q = p ∙ sym (q)
+pub lanes-lane : Determined 0 lanes-lane-kinds.ps lanes-lane-kinds.r lanes-lane-reads.Post
+lanes-lane κs a x y s t p q = p ∙ sym q
 
-pub lanes-step-bank : OneResult 0 lanes-step-bank-kinds.ps lanes-step-bank-kinds.r lanes-step-bank-reads.Post
-lanes-step-bank κs a x y s t p q = p ∙ sym (q)
+pub lanes-step : Determined 0 lanes-step-kinds.ps lanes-step-kinds.r lanes-step-reads.Post
+lanes-step κs a x y s t p q = p ∙ sym q
 
 -- ---- bank
 
@@ -363,412 +342,284 @@ lanes-step-bank κs a x y s t p q = p ∙ sym (q)
 same-bands : (x y : FourBands) → lines x ≡ lines y → x ≡ y
 same-bands x y e = λ i. record { b0 = getD (e i) 0 (x .b0); b1 = getD (e i) 1 (x .b0); b2 = getD (e i) 2 (x .b0); b3 = getD (e i) 3 (x .b0) }
 
-pub bank-four-lines : OneResult 1 bank-four-lines-kinds.ps bank-four-lines-kinds.r bank-four-lines-reads.Post
-bank-four-lines κs a x y s t p q = same-bands _ _ (p .0 ∙ sym (q .0))
+pub bank-four-lines : DeterminedWith1 1 bank-four-lines-kinds.ps bank-four-lines-kinds.r bank-four-lines-reads.Post (λ κs s. s .1 .0 .now)
+bank-four-lines κs a x y s t p q = (same-bands _ _ (p .0 ∙ sym (q .0)), p .1 ∙ sym (q .1))
 
-pub bank-four-lines-rows : OneExit 1 bank-four-lines-kinds.ps bank-four-lines-kinds.r bank-four-lines-reads.Post (λ κs s. s .1 .0 .now)
-bank-four-lines-rows κs a x y s t p q = p .1 ∙ sym (q .1)
-
-pub bank-one-line : OneResult 1 bank-one-line-kinds.ps bank-one-line-kinds.r bank-one-line-reads.Post
-bank-one-line κs a x y s t p q = p .0 ∙ sym (q .0)
-
-pub bank-one-line-xs : OneExit 1 bank-one-line-kinds.ps bank-one-line-kinds.r bank-one-line-reads.Post (λ κs s. s .1 .0 .now)
-bank-one-line-xs κs a x y s t p q = p .1 ∙ sym (q .1)
+pub bank-one-line : DeterminedWith1 1 bank-one-line-kinds.ps bank-one-line-kinds.r bank-one-line-reads.Post (λ κs s. s .1 .0 .now)
+bank-one-line κs a x y s t p q = (p .0 ∙ sym (q .0), p .1 ∙ sym (q .1))
 
 -- ---- hadamard
 
-pub hadamard-minus : OneResult 0 hadamard-minus-kinds.ps hadamard-minus-kinds.r hadamard-minus-reads.Post
-hadamard-minus κs a x y s t p q = p ∙ sym (q)
+pub hadamard-minus : Determined 0 hadamard-minus-kinds.ps hadamard-minus-kinds.r hadamard-minus-reads.Post
+hadamard-minus κs a x y s t p q = p ∙ sym q
 
-pub hadamard-plus-minus : OneResult 0 hadamard-plus-minus-kinds.ps hadamard-plus-minus-kinds.r hadamard-plus-minus-reads.Post
-hadamard-plus-minus κs a x y s t p q = p ∙ sym (q)
+pub hadamard-mix-sample : DeterminedWith1 2 hadamard-mix-sample-kinds.ps hadamard-mix-sample-kinds.r hadamard-mix-sample-reads.Post (λ κs s. s .1 .0 .now)
+hadamard-mix-sample κs a x y s t p q = (p .0 ∙ sym (q .0), (rw (p .0) at (p .1)) ∙ sym (rw (q .0) at (q .1)))
 
-pub hadamard-mix-sample : OneResult 2 hadamard-mix-sample-kinds.ps hadamard-mix-sample-kinds.r hadamard-mix-sample-reads.Post
-hadamard-mix-sample κs a x y s t p q = p .0 ∙ sym (q .0)
-
-pub hadamard-mix-sample-y : OneExit 2 hadamard-mix-sample-kinds.ps hadamard-mix-sample-kinds.r hadamard-mix-sample-reads.Post (λ κs s. s .1 .0 .now)
-hadamard-mix-sample-y κs a x y s t p q = (rw (p .0) at (p .1)) ∙ sym (rw (q .0) at (q .1))
+pub hadamard-plus-minus : Determined 0 hadamard-plus-minus-kinds.ps hadamard-plus-minus-kinds.r hadamard-plus-minus-reads.Post
+hadamard-plus-minus κs a x y s t p q = p ∙ sym q
 
 -- ---- mixer
 
-pub mixer-mix-rows : OneResult 1 mixer-mix-rows-kinds.ps mixer-mix-rows-kinds.r mixer-mix-rows-reads.Post
-mixer-mix-rows κs a x y s t p q = p .0 ∙ sym (q .0)
-
-pub mixer-mix-rows-rows : OneExit 1 mixer-mix-rows-kinds.ps mixer-mix-rows-kinds.r mixer-mix-rows-reads.Post (λ κs s. s .1 .1 .0 .now)
-mixer-mix-rows-rows κs a x y s t p q = (rw (p .0) at (p .1)) ∙ sym (rw (q .0) at (q .1))
-
--- ---- bands
-
-pub bands-time-ok : OneResult 0 bands-time-ok-kinds.ps bands-time-ok-kinds.r bands-time-ok-reads.Post
-bands-time-ok κs a x y s t p q = p ∙ sym (q)
-
-pub bands-times-ok : OneResult 0 bands-times-ok-kinds.ps bands-times-ok-kinds.r bands-times-ok-reads.Post
-bands-times-ok κs a x y s t p q = p ∙ sym (q)
-
-pub bands-largest : OneResult 0 bands-largest-kinds.ps bands-largest-kinds.r bands-largest-reads.Post
-bands-largest κs a x y s t p q = p ∙ sym (q)
-
-pub bands-tail-count : OneResult 0 bands-tail-count-kinds.ps bands-tail-count-kinds.r bands-tail-count-reads.Post
-bands-tail-count κs a x y s t p q = p ∙ sym (q)
-
--- ---- primes
-
-pub primes-prime : OneResult 0 primes-prime-kinds.ps primes-prime-kinds.r primes-prime-reads.Post
-primes-prime κs a x y s t p q = p ∙ sym (q)
-
-pub primes-delay : OneResult 0 primes-delay-kinds.ps primes-delay-kinds.r primes-delay-reads.Post
-primes-delay κs a x y s t p q = p ∙ sym (q)
-
-pub primes-delay-min : OneResult 0 primes-delay-min-kinds.ps primes-delay-min-kinds.r primes-delay-min-reads.Post
-primes-delay-min κs a x y s t p q = p ∙ sym (q)
-
-pub primes-prime-power : OneResult 0 primes-prime-power-kinds.ps primes-prime-power-kinds.r primes-prime-power-reads.Post
-primes-prime-power κs a x y s t p q = p ∙ sym (q)
-
-pub primes-delay-value : OneResult 0 primes-delay-value-kinds.ps primes-delay-value-kinds.r primes-delay-value-reads.Post
-primes-delay-value κs a x y s t p q = p ∙ sym (q)
-
-pub primes-delay-values : OneResult 2 primes-delay-values-kinds.ps primes-delay-values-kinds.r primes-delay-values-reads.Post
-primes-delay-values κs a x y s t p q = p .0 ∙ sym (q .0)
-
-pub primes-delay-values-out : OneExit 2 primes-delay-values-kinds.ps primes-delay-values-kinds.r primes-delay-values-reads.Post (λ κs s. s .1 .1 .1 .0 .now)
-primes-delay-values-out κs a x y s t p q = p .1 ∙ sym (q .1)
-
--- ---- audio_buffer
-
-pub audio-buffer-verdict : OneResult 0 audio-buffer-verdict-kinds.ps audio-buffer-verdict-kinds.r audio-buffer-verdict-reads.Post
-audio-buffer-verdict κs a x y s t p q = p ∙ sym (q)
-
-pub audio-buffer-judge-then : OneResult 0 audio-buffer-judge-then-kinds.ps audio-buffer-judge-then-kinds.r audio-buffer-judge-then-reads.Post
-audio-buffer-judge-then κs a x y s t p q = p ∙ sym (q)
-
-pub audio-buffer-judge-two : OneResult 0 audio-buffer-judge-two-kinds.ps audio-buffer-judge-two-kinds.r audio-buffer-judge-two-reads.Post
-audio-buffer-judge-two κs a x y s t p q = p ∙ sym (q)
-
-pub audio-buffer-write-interleaved : OneResult 2 audio-buffer-write-interleaved-kinds.ps audio-buffer-write-interleaved-kinds.r audio-buffer-write-interleaved-reads.Post
-audio-buffer-write-interleaved κs a x y s t p q = p .0 ∙ sym (q .0)
-
-pub audio-buffer-write-interleaved-target : OneExit 2 audio-buffer-write-interleaved-kinds.ps audio-buffer-write-interleaved-kinds.r audio-buffer-write-interleaved-reads.Post (λ κs s. s .1 .1 .1 .0 .now)
-audio-buffer-write-interleaved-target κs a x y s t p q = p .1 ∙ sym (q .1)
-
-pub audio-buffer-read-interleaved : OneResult 2 audio-buffer-read-interleaved-kinds.ps audio-buffer-read-interleaved-kinds.r audio-buffer-read-interleaved-reads.Post
-audio-buffer-read-interleaved κs a x y s t p q = p .0 ∙ sym (q .0)
-
-pub audio-buffer-read-interleaved-buffer : OneExit 2 audio-buffer-read-interleaved-kinds.ps audio-buffer-read-interleaved-kinds.r audio-buffer-read-interleaved-reads.Post (λ κs s. s .1 .1 .1 .0 .now)
-audio-buffer-read-interleaved-buffer κs a x y s t p q = p .1 ∙ sym (q .1)
-
-pub audio-buffer-channel-number : OneResult 0 audio-buffer-channel-number-kinds.ps audio-buffer-channel-number-kinds.r audio-buffer-channel-number-reads.Post
-audio-buffer-channel-number κs a x y s t p q = p ∙ sym (q)
-
-pub audio-buffer-channel : OneValue 1 audio-buffer-channel-kinds.ps audio-buffer-channel-kinds.r audio-buffer-channel-reads.Post (λ κs x. now x)
-audio-buffer-channel κs a x y s t p q = p ∙ sym (q)
-
--- ---- levels
-
-pub levels-make-silent : OneResult 1 levels-make-silent-kinds.ps levels-make-silent-kinds.r levels-make-silent-reads.Post
-levels-make-silent κs a x y s t p q = p .0 ∙ sym (q .0)
-
-pub levels-make-silent-buffer : OneExit 1 levels-make-silent-kinds.ps levels-make-silent-kinds.r levels-make-silent-reads.Post (λ κs s. s .1 .1 .0 .now)
-levels-make-silent-buffer κs a x y s t p q = p .1 ∙ sym (q .1)
-
-pub levels-scale : OneResult 1 levels-scale-kinds.ps levels-scale-kinds.r levels-scale-reads.Post
-levels-scale κs a x y s t p q = p .0 ∙ sym (q .0)
-
-pub levels-scale-buffer : OneExit 1 levels-scale-kinds.ps levels-scale-kinds.r levels-scale-reads.Post (λ κs s. s .1 .1 .1 .0 .now)
-levels-scale-buffer κs a x y s t p q = p .1 ∙ sym (q .1)
-
-pub levels-mix : OneResult 2 levels-mix-kinds.ps levels-mix-kinds.r levels-mix-reads.Post
-levels-mix κs a x y s t p q = p .0 ∙ sym (q .0)
-
-pub levels-mix-other : OneExit 2 levels-mix-kinds.ps levels-mix-kinds.r levels-mix-reads.Post (λ κs s. s .1 .1 .1 .0 .now)
-levels-mix-other κs a x y s t p q = p .1 ∙ sym (q .1)
-
-pub levels-downmix : OneResult 2 levels-downmix-kinds.ps levels-downmix-kinds.r levels-downmix-reads.Post
-levels-downmix κs a x y s t p q = p .0 ∙ sym (q .0)
-
-pub levels-downmix-output : OneExit 2 levels-downmix-kinds.ps levels-downmix-kinds.r levels-downmix-reads.Post (λ κs s. s .1 .1 .1 .0 .now)
-levels-downmix-output κs a x y s t p q = p .1 ∙ sym (q .1)
-
--- ---- wire
-
-pub wire-sample : OneResult 0 wire-sample-kinds.ps wire-sample-kinds.r wire-sample-reads.Post
-wire-sample κs a x y s t p q = p ∙ sym (q)
-
-pub wire-bits : OneResult 0 wire-bits-kinds.ps wire-bits-kinds.r wire-bits-reads.Post
-wire-bits κs a x y s t p q = p ∙ sym (q)
-
-pub wire-decode-out : OneExit 2 wire-decode-kinds.ps wire-decode-kinds.r wire-decode-reads.Post (λ κs s. s .1 .0 .now)
-wire-decode-out κs a x y s t p q = p ∙ sym (q)
-
-pub wire-encode-out : OneExit 2 wire-encode-kinds.ps wire-encode-kinds.r wire-encode-reads.Post (λ κs s. s .1 .0 .now)
-wire-encode-out κs a x y s t p q = p ∙ sym (q)
-
--- ---- unit
-
-pub unit-room-ok : OneResult 0 unit-room-ok-kinds.ps unit-room-ok-kinds.r unit-room-ok-reads.Post
-unit-room-ok κs a x y s t p q = p ∙ sym (q)
-
-pub unit-fresh-state : OneResult 0 unit-fresh-state-kinds.ps unit-fresh-state-kinds.r unit-fresh-state-reads.Post
-unit-fresh-state κs a x y s t p q = p ∙ sym (q)
-
-pub unit-in-range : OneResult 0 unit-in-range-kinds.ps unit-in-range-kinds.r unit-in-range-reads.Post
-unit-in-range κs a x y s t p q = p ∙ sym (q)
-
-pub unit-store-ok : OneResult 0 unit-store-ok-kinds.ps unit-store-ok-kinds.r unit-store-ok-reads.Post
-unit-store-ok κs a x y s t p q = p ∙ sym (q)
-
-pub unit-work-ok : OneResult 0 unit-work-ok-kinds.ps unit-work-ok-kinds.r unit-work-ok-reads.Post
-unit-work-ok κs a x y s t p q = p ∙ sym (q)
-
-pub unit-lent-ok : OneResult 0 unit-lent-ok-kinds.ps unit-lent-ok-kinds.r unit-lent-ok-reads.Post
-unit-lent-ok κs a x y s t p q = p ∙ sym (q)
-
--- ---- judges
-
-pub judges-judge : OneResult 0 judges-judge-kinds.ps judges-judge-kinds.r judges-judge-reads.Post
-judges-judge κs a x y s t p q = p ∙ sym (q)
-
-pub judges-judge-fresh : OneResult 0 judges-judge-fresh-kinds.ps judges-judge-fresh-kinds.r judges-judge-fresh-reads.Post
-judges-judge-fresh κs a x y s t p q = p ∙ sym (q)
-
-pub judges-judge-reset : OneResult 0 judges-judge-reset-kinds.ps judges-judge-reset-kinds.r judges-judge-reset-reads.Post
-judges-judge-reset κs a x y s t p q = p ∙ sym (q)
-
-pub judges-judge-tail : OneResult 0 judges-judge-tail-kinds.ps judges-judge-tail-kinds.r judges-judge-tail-reads.Post
-judges-judge-tail κs a x y s t p q = p ∙ sym (q)
-
-pub judges-judge-apply : OneResult 2 judges-judge-apply-kinds.ps judges-judge-apply-kinds.r judges-judge-apply-reads.Post
-judges-judge-apply κs a x y s t p q = p ∙ sym (q)
-
-pub judges-judge-given : OneResult 2 judges-judge-given-kinds.ps judges-judge-given-kinds.r judges-judge-given-reads.Post
-judges-judge-given κs a x y s t p q = p ∙ sym (q)
-
-pub judges-or-else : OneResult 0 judges-or-else-kinds.ps judges-or-else-kinds.r judges-or-else-reads.Post
-judges-or-else κs a x y s t p q = p ∙ sym (q)
-
--- ---- turns
-
-pub turns-judge-open-apply : OneResult 2 turns-judge-open-apply-kinds.ps turns-judge-open-apply-kinds.r turns-judge-open-apply-reads.Post
-turns-judge-open-apply κs a x y s t p q = p ∙ sym (q)
-
-pub turns-judge-open-tail : OneResult 0 turns-judge-open-tail-kinds.ps turns-judge-open-tail-kinds.r turns-judge-open-tail-reads.Post
-turns-judge-open-tail κs a x y s t p q = p ∙ sym (q)
-
-pub turns-judge-read : OneResult 0 turns-judge-read-kinds.ps turns-judge-read-kinds.r turns-judge-read-reads.Post
-turns-judge-read κs a x y s t p q = p ∙ sym (q)
-
-pub turns-judge-mix : OneResult 0 turns-judge-mix-kinds.ps turns-judge-mix-kinds.r turns-judge-mix-reads.Post
-turns-judge-mix κs a x y s t p q = p ∙ sym (q)
-
-pub turns-judge-line : OneResult 0 turns-judge-line-kinds.ps turns-judge-line-kinds.r turns-judge-line-reads.Post
-turns-judge-line κs a x y s t p q = p ∙ sym (q)
-
-pub turns-judge-output : OneResult 0 turns-judge-output-kinds.ps turns-judge-output-kinds.r turns-judge-output-reads.Post
-turns-judge-output κs a x y s t p q = p ∙ sym (q)
-
-pub turns-judge-close : OneResult 0 turns-judge-close-kinds.ps turns-judge-close-kinds.r turns-judge-close-reads.Post
-turns-judge-close κs a x y s t p q = p ∙ sym (q)
-
-pub turns-judge-abandon : OneResult 0 turns-judge-abandon-kinds.ps turns-judge-abandon-kinds.r turns-judge-abandon-reads.Post
-turns-judge-abandon κs a x y s t p q = p ∙ sym (q)
+pub mixer-mix-rows : DeterminedWith1 1 mixer-mix-rows-kinds.ps mixer-mix-rows-kinds.r mixer-mix-rows-reads.Post (λ κs s. s .1 .1 .0 .now)
+mixer-mix-rows κs a x y s t p q = (p .0 ∙ sym (q .0), (rw (p .0) at (p .1)) ∙ sym (rw (q .0) at (q .1)))
 
 -- ---- allpass
 
-pub allpass-pass-stage-w : OneExit 1 allpass-pass-stage-kinds.ps allpass-pass-stage-kinds.r allpass-pass-stage-reads.Post (λ κs s. s .0 .now)
-allpass-pass-stage-w κs a x y s t p q = p ∙ sym (q)
+pub allpass-pass-stage : DeterminedExit 1 allpass-pass-stage-kinds.ps allpass-pass-stage-kinds.r allpass-pass-stage-reads.Post (λ κs s. s .0 .now)
+allpass-pass-stage κs a x y s t p q = p ∙ sym q
 
--- ---- frame
+-- ---- bands
 
-pub frame-add-first-rows : OneExit 1 frame-add-first-kinds.ps frame-add-first-kinds.r frame-add-first-reads.Post (λ κs s. s .0 .now)
-frame-add-first-rows κs a x y s t p q = p ∙ sym (q)
+pub bands-time-ok : Determined 0 bands-time-ok-kinds.ps bands-time-ok-kinds.r bands-time-ok-reads.Post
+bands-time-ok κs a x y s t p q = p ∙ sym q
 
-pub frame-divide-xs : OneExit 1 frame-divide-kinds.ps frame-divide-kinds.r frame-divide-reads.Post (λ κs s. s .0 .now)
-frame-divide-xs κs a x y s t p q = p ∙ sym (q)
+pub bands-times-ok : Determined 0 bands-times-ok-kinds.ps bands-times-ok-kinds.r bands-times-ok-reads.Post
+bands-times-ok κs a x y s t p q = p ∙ sym q
 
-pub frame-copy-dst : OneExit 2 frame-copy-kinds.ps frame-copy-kinds.r frame-copy-reads.Post (λ κs s. s .1 .0 .now)
-frame-copy-dst κs a x y s t p q = p ∙ sym (q)
+pub bands-largest : Determined 0 bands-largest-kinds.ps bands-largest-kinds.r bands-largest-reads.Post
+bands-largest κs a x y s t p q = p ∙ sym q
 
-pub frame-filters-finite : OneResult 0 frame-filters-finite-kinds.ps frame-filters-finite-kinds.r frame-filters-finite-reads.Post
-frame-filters-finite κs a x y s t p q = p ∙ sym (q)
+pub bands-tail-count : Determined 0 bands-tail-count-kinds.ps bands-tail-count-kinds.r bands-tail-count-reads.Post
+bands-tail-count κs a x y s t p q = p ∙ sym q
+
+pub bands-fallen : Determined 0 bands-fallen-kinds.ps bands-fallen-kinds.r bands-fallen-reads.Post
+bands-fallen κs a x y s t p q = p ∙ sym q
+
+-- ---- primes
+
+pub primes-prime : Determined 0 primes-prime-kinds.ps primes-prime-kinds.r primes-prime-reads.Post
+primes-prime κs a x y s t p q = p ∙ sym q
+
+pub primes-delay : Determined 0 primes-delay-kinds.ps primes-delay-kinds.r primes-delay-reads.Post
+primes-delay κs a x y s t p q = p ∙ sym q
+
+pub primes-delay-min : Determined 0 primes-delay-min-kinds.ps primes-delay-min-kinds.r primes-delay-min-reads.Post
+primes-delay-min κs a x y s t p q = p ∙ sym q
+
+pub primes-prime-power : Determined 0 primes-prime-power-kinds.ps primes-prime-power-kinds.r primes-prime-power-reads.Post
+primes-prime-power κs a x y s t p q = p ∙ sym q
+
+pub primes-delay-value : Determined 0 primes-delay-value-kinds.ps primes-delay-value-kinds.r primes-delay-value-reads.Post
+primes-delay-value κs a x y s t p q = p ∙ sym q
+
+pub primes-delay-values : DeterminedWith1 2 primes-delay-values-kinds.ps primes-delay-values-kinds.r primes-delay-values-reads.Post (λ κs s. s .1 .1 .1 .0 .now)
+primes-delay-values κs a x y s t p q = (p .0 ∙ sym (q .0), p .1 ∙ sym (q .1))
+
+-- ---- audio_buffer
+
+pub audio-buffer-verdict : Determined 0 audio-buffer-verdict-kinds.ps audio-buffer-verdict-kinds.r audio-buffer-verdict-reads.Post
+audio-buffer-verdict κs a x y s t p q = p ∙ sym q
+
+pub audio-buffer-judge-then : Determined 0 audio-buffer-judge-then-kinds.ps audio-buffer-judge-then-kinds.r audio-buffer-judge-then-reads.Post
+audio-buffer-judge-then κs a x y s t p q = p ∙ sym q
+
+pub audio-buffer-judge-two : Determined 0 audio-buffer-judge-two-kinds.ps audio-buffer-judge-two-kinds.r audio-buffer-judge-two-reads.Post
+audio-buffer-judge-two κs a x y s t p q = p ∙ sym q
+
+pub audio-buffer-write-interleaved : DeterminedWith1 2 audio-buffer-write-interleaved-kinds.ps audio-buffer-write-interleaved-kinds.r audio-buffer-write-interleaved-reads.Post (λ κs s. s .1 .1 .1 .0 .now)
+audio-buffer-write-interleaved κs a x y s t p q = (p .0 ∙ sym (q .0), p .1 ∙ sym (q .1))
+
+pub audio-buffer-read-interleaved : DeterminedWith1 2 audio-buffer-read-interleaved-kinds.ps audio-buffer-read-interleaved-kinds.r audio-buffer-read-interleaved-reads.Post (λ κs s. s .1 .1 .1 .0 .now)
+audio-buffer-read-interleaved κs a x y s t p q = (p .0 ∙ sym (q .0), p .1 ∙ sym (q .1))
+
+pub audio-buffer-channel-number : Determined 0 audio-buffer-channel-number-kinds.ps audio-buffer-channel-number-kinds.r audio-buffer-channel-number-reads.Post
+audio-buffer-channel-number κs a x y s t p q = p ∙ sym q
+
+pub audio-buffer-channel : OneValue 1 audio-buffer-channel-kinds.ps audio-buffer-channel-kinds.r audio-buffer-channel-reads.Post (λ κs x. now x)
+audio-buffer-channel κs a x y s t p q = p ∙ sym q
+
+-- ---- levels
+
+pub levels-make-silent : DeterminedWith1 1 levels-make-silent-kinds.ps levels-make-silent-kinds.r levels-make-silent-reads.Post (λ κs s. s .1 .1 .0 .now)
+levels-make-silent κs a x y s t p q = (p .0 ∙ sym (q .0), p .1 ∙ sym (q .1))
+
+pub levels-scale : DeterminedWith1 1 levels-scale-kinds.ps levels-scale-kinds.r levels-scale-reads.Post (λ κs s. s .1 .1 .1 .0 .now)
+levels-scale κs a x y s t p q = (p .0 ∙ sym (q .0), p .1 ∙ sym (q .1))
+
+pub levels-mix : DeterminedWith1 2 levels-mix-kinds.ps levels-mix-kinds.r levels-mix-reads.Post (λ κs s. s .1 .1 .1 .0 .now)
+levels-mix κs a x y s t p q = (p .0 ∙ sym (q .0), p .1 ∙ sym (q .1))
+
+pub levels-downmix : DeterminedWith1 2 levels-downmix-kinds.ps levels-downmix-kinds.r levels-downmix-reads.Post (λ κs s. s .1 .1 .1 .0 .now)
+levels-downmix κs a x y s t p q = (p .0 ∙ sym (q .0), p .1 ∙ sym (q .1))
+
+-- ---- wire
+
+pub wire-sample : Determined 0 wire-sample-kinds.ps wire-sample-kinds.r wire-sample-reads.Post
+wire-sample κs a x y s t p q = p ∙ sym q
+
+pub wire-bits : Determined 0 wire-bits-kinds.ps wire-bits-kinds.r wire-bits-reads.Post
+wire-bits κs a x y s t p q = p ∙ sym q
+
+pub wire-decode : DeterminedExit 2 wire-decode-kinds.ps wire-decode-kinds.r wire-decode-reads.Post (λ κs s. s .1 .0 .now)
+wire-decode κs a x y s t p q = p ∙ sym q
+
+pub wire-encode : DeterminedExit 2 wire-encode-kinds.ps wire-encode-kinds.r wire-encode-reads.Post (λ κs s. s .1 .0 .now)
+wire-encode κs a x y s t p q = p ∙ sym q
+
+-- ---- unit
+
+pub unit-fresh-state : Determined 0 unit-fresh-state-kinds.ps unit-fresh-state-kinds.r unit-fresh-state-reads.Post
+unit-fresh-state κs a x y s t p q = p ∙ sym q
+
+pub unit-quiet : Determined 0 unit-quiet-kinds.ps unit-quiet-kinds.r unit-quiet-reads.Post
+unit-quiet κs a x y s t p q = p ∙ sym q
+
+pub unit-lent-ok : Determined 0 unit-lent-ok-kinds.ps unit-lent-ok-kinds.r unit-lent-ok-reads.Post
+unit-lent-ok κs a x y s t p q = p ∙ sym q
+
+pub unit-rings-hold : Determined 0 unit-rings-hold-kinds.ps unit-rings-hold-kinds.r unit-rings-hold-reads.Post
+unit-rings-hold κs a x y s t p q = p ∙ sym q
+
+pub unit-room-ok : Determined 0 unit-room-ok-kinds.ps unit-room-ok-kinds.r unit-room-ok-reads.Post
+unit-room-ok κs a x y s t p q = p ∙ sym q
+
+pub unit-in-range : Determined 0 unit-in-range-kinds.ps unit-in-range-kinds.r unit-in-range-reads.Post
+unit-in-range κs a x y s t p q = p ∙ sym q
+
+pub unit-lengths : Determined 0 unit-lengths-kinds.ps unit-lengths-kinds.r unit-lengths-reads.Post
+unit-lengths κs a x y s t p q = p ∙ sym q
+
+pub unit-store-ok : Determined 0 unit-store-ok-kinds.ps unit-store-ok-kinds.r unit-store-ok-reads.Post
+unit-store-ok κs a x y s t p q = p ∙ sym q
+
+pub unit-work-ok : Determined 0 unit-work-ok-kinds.ps unit-work-ok-kinds.r unit-work-ok-reads.Post
+unit-work-ok κs a x y s t p q = p ∙ sym q
+
+pub unit-is-store : Determined 0 unit-is-store-kinds.ps unit-is-store-kinds.r unit-is-store-reads.Post
+unit-is-store κs a x y s t p q = p ∙ sym q
+
+-- ---- judges
+
+pub judges-judge-fresh : Determined 0 judges-judge-fresh-kinds.ps judges-judge-fresh-kinds.r judges-judge-fresh-reads.Post
+judges-judge-fresh κs a x y s t p q = p ∙ sym q
+
+pub judges-judge-reset : Determined 0 judges-judge-reset-kinds.ps judges-judge-reset-kinds.r judges-judge-reset-reads.Post
+judges-judge-reset κs a x y s t p q = p ∙ sym q
+
+pub judges-judge-tail : Determined 0 judges-judge-tail-kinds.ps judges-judge-tail-kinds.r judges-judge-tail-reads.Post
+judges-judge-tail κs a x y s t p q = p ∙ sym q
+
+pub judges-judge-apply : Determined 2 judges-judge-apply-kinds.ps judges-judge-apply-kinds.r judges-judge-apply-reads.Post
+judges-judge-apply κs a x y s t p q = p ∙ sym q
+
+pub judges-judge-open-apply : Determined 2 judges-judge-open-apply-kinds.ps judges-judge-open-apply-kinds.r judges-judge-open-apply-reads.Post
+judges-judge-open-apply κs a x y s t p q = p ∙ sym q
+
+pub judges-judge-open-tail : Determined 0 judges-judge-open-tail-kinds.ps judges-judge-open-tail-kinds.r judges-judge-open-tail-reads.Post
+judges-judge-open-tail κs a x y s t p q = p ∙ sym q
+
+pub judges-judge-read : Determined 0 judges-judge-read-kinds.ps judges-judge-read-kinds.r judges-judge-read-reads.Post
+judges-judge-read κs a x y s t p q = p ∙ sym q
+
+pub judges-judge-mix : Determined 0 judges-judge-mix-kinds.ps judges-judge-mix-kinds.r judges-judge-mix-reads.Post
+judges-judge-mix κs a x y s t p q = p ∙ sym q
+
+pub judges-judge-line : Determined 0 judges-judge-line-kinds.ps judges-judge-line-kinds.r judges-judge-line-reads.Post
+judges-judge-line κs a x y s t p q = p ∙ sym q
+
+pub judges-judge-output : Determined 0 judges-judge-output-kinds.ps judges-judge-output-kinds.r judges-judge-output-reads.Post
+judges-judge-output κs a x y s t p q = p ∙ sym q
+
+pub judges-judge-close : Determined 0 judges-judge-close-kinds.ps judges-judge-close-kinds.r judges-judge-close-reads.Post
+judges-judge-close κs a x y s t p q = p ∙ sym q
+
+pub judges-judge-abandon : Determined 0 judges-judge-abandon-kinds.ps judges-judge-abandon-kinds.r judges-judge-abandon-reads.Post
+judges-judge-abandon κs a x y s t p q = p ∙ sym q
+
+-- ---- stages
+
+pub stages-add-first : DeterminedExit 1 stages-add-first-kinds.ps stages-add-first-kinds.r stages-add-first-reads.Post (λ κs s. s .0 .now)
+stages-add-first κs a x y s t p q = p ∙ sym q
+
+pub stages-divide : DeterminedExit 1 stages-divide-kinds.ps stages-divide-kinds.r stages-divide-reads.Post (λ κs s. s .0 .now)
+stages-divide κs a x y s t p q = p ∙ sym q
+
+pub stages-copy : DeterminedExit 2 stages-copy-kinds.ps stages-copy-kinds.r stages-copy-reads.Post (λ κs s. s .1 .0 .now)
+stages-copy κs a x y s t p q = p ∙ sym q
+
+pub stages-filters-finite : Determined 0 stages-filters-finite-kinds.ps stages-filters-finite-kinds.r stages-filters-finite-reads.Post
+stages-filters-finite κs a x y s t p q = p ∙ sym q
 
 -- ---- rows
 
-pub rows-line-rows : OneResult 1 rows-line-rows-kinds.ps rows-line-rows-kinds.r rows-line-rows-reads.Post
-rows-line-rows κs a x y s t p q = p .0 ∙ sym (q .0)
+pub rows-line-rows : DeterminedWith1 1 rows-line-rows-kinds.ps rows-line-rows-kinds.r rows-line-rows-reads.Post (λ κs s. s .1 .1 .1 .1 .1 .0 .now)
+rows-line-rows κs a x y s t p q = (p .0 ∙ sym (q .0), p .1 ∙ sym (q .1))
 
-pub rows-line-rows-rows : OneExit 1 rows-line-rows-kinds.ps rows-line-rows-kinds.r rows-line-rows-reads.Post (λ κs s. s .1 .1 .1 .1 .1 .0 .now)
-rows-line-rows-rows κs a x y s t p q = p .1 ∙ sym (q .1)
+pub rows-make-line : DeterminedWith1 1 rows-make-line-kinds.ps rows-make-line-kinds.r rows-make-line-reads.Post (λ κs s. s .1 .1 .1 .1 .0 .now)
+rows-make-line κs a x y s t p q = (p .0 ∙ sym (q .0), p .1 ∙ sym (q .1))
 
-pub rows-make-line : OneResult 1 rows-make-line-kinds.ps rows-make-line-kinds.r rows-make-line-reads.Post
-rows-make-line κs a x y s t p q = p .0 ∙ sym (q .0)
+pub rows-read-line : DeterminedExit 2 rows-read-line-kinds.ps rows-read-line-kinds.r rows-read-line-reads.Post (λ κs s. s .1 .1 .1 .1 .1 .0 .now)
+rows-read-line κs a x y s t p q = p ∙ sym q
 
-pub rows-make-line-work : OneExit 1 rows-make-line-kinds.ps rows-make-line-kinds.r rows-make-line-reads.Post (λ κs s. s .1 .1 .1 .1 .0 .now)
-rows-make-line-work κs a x y s t p q = p .1 ∙ sym (q .1)
+pub rows-output-fits : Determined 0 rows-output-fits-kinds.ps rows-output-fits-kinds.r rows-output-fits-reads.Post
+rows-output-fits κs a x y s t p q = p ∙ sym q
 
-pub rows-three-at : OneResult 1 rows-three-at-kinds.ps rows-three-at-kinds.r rows-three-at-reads.Post
-rows-three-at κs a x y s t p q = p .0 ∙ sym (q .0)
+pub rows-work-for : Determined 0 rows-work-for-kinds.ps rows-work-for-kinds.r rows-work-for-reads.Post
+rows-work-for κs a x y s t p q = p ∙ sym q
 
-pub rows-three-at-row : OneExit 1 rows-three-at-kinds.ps rows-three-at-kinds.r rows-three-at-reads.Post (λ κs s. s .1 .1 .0 .now)
-rows-three-at-row κs a x y s t p q = p .1 ∙ sym (q .1)
-
-pub rows-output-fits : OneResult 0 rows-output-fits-kinds.ps rows-output-fits-kinds.r rows-output-fits-reads.Post
-rows-output-fits κs a x y s t p q = p ∙ sym (q)
-
-pub rows-work-for : OneResult 0 rows-work-for-kinds.ps rows-work-for-kinds.r rows-work-for-reads.Post
-rows-work-for κs a x y s t p q = p ∙ sym (q)
+pub rows-three-at : DeterminedWith1 1 rows-three-at-kinds.ps rows-three-at-kinds.r rows-three-at-reads.Post (λ κs s. s .1 .1 .0 .now)
+rows-three-at κs a x y s t p q = (p .0 ∙ sym (q .0), p .1 ∙ sym (q .1))
 
 -- ---- outputs
 
-pub outputs-output-row : OneResult 1 outputs-output-row-kinds.ps outputs-output-row-kinds.r outputs-output-row-reads.Post
-outputs-output-row κs a x y s t p q = p .0 ∙ sym (q .0)
+pub outputs-output-row : DeterminedWith1 1 outputs-output-row-kinds.ps outputs-output-row-kinds.r outputs-output-row-reads.Post (λ κs s. s .1 .1 .1 .1 .1 .1 .0 .now)
+outputs-output-row κs a x y s t p q = (p .0 ∙ sym (q .0), p .1 ∙ sym (q .1))
 
-pub outputs-output-row-rows : OneExit 1 outputs-output-row-kinds.ps outputs-output-row-kinds.r outputs-output-row-reads.Post (λ κs s. s .1 .1 .1 .1 .1 .1 .0 .now)
-outputs-output-row-rows κs a x y s t p q = p .1 ∙ sym (q .1)
+pub outputs-make-output : DeterminedWith1 1 outputs-make-output-kinds.ps outputs-make-output-kinds.r outputs-make-output-reads.Post (λ κs s. s .1 .1 .1 .0 .now)
+outputs-make-output κs a x y s t p q = (p .0 ∙ sym (q .0), p .1 ∙ sym (q .1))
 
-pub outputs-make-output : OneResult 1 outputs-make-output-kinds.ps outputs-make-output-kinds.r outputs-make-output-reads.Post
-outputs-make-output κs a x y s t p q = p .0 ∙ sym (q .0)
+-- ---- frame
 
-pub outputs-make-output-work : OneExit 1 outputs-make-output-kinds.ps outputs-make-output-kinds.r outputs-make-output-reads.Post (λ κs s. s .1 .1 .1 .0 .now)
-outputs-make-output-work κs a x y s t p q = p .1 ∙ sym (q .1)
+pub frame-run-frame : DeterminedWith3 3 frame-run-frame-kinds.ps frame-run-frame-kinds.r frame-run-frame-reads.Post (λ κs s. s .1 .1 .1 .1 .1 .1 .0 .now) (λ κs s. s .1 .1 .1 .1 .1 .1 .1 .0 .now) (λ κs s. s .1 .1 .1 .1 .1 .1 .1 .1 .0 .now)
+frame-run-frame κs a x y s t p q = (p .0 ∙ sym (q .0), p .1 .0 ∙ sym (q .1 .0), p .1 .1 .0 ∙ sym (q .1 .1 .0), p .1 .1 .1 ∙ sym (q .1 .1 .1))
 
--- ---- filters
-
-pub filters-filters-of : OneResult 1 filters-filters-of-kinds.ps filters-filters-of-kinds.r filters-filters-of-reads.Post
-filters-filters-of κs a x y s t p q = p ∙ sym (q)
-
--- ---- reads
-
-pub reads-read-line-work : OneExit 2 reads-read-line-kinds.ps reads-read-line-kinds.r reads-read-line-reads.Post (λ κs s. s .1 .1 .1 .1 .0 .now)
-reads-read-line-work κs a x y s t p q = p ∙ sym (q)
-
--- ---- lines
-
-pub lines-run-frame : OneResult 3 lines-run-frame-kinds.ps lines-run-frame-kinds.r lines-run-frame-reads.Post
-lines-run-frame κs a x y s t p q = p .0 ∙ sym (q .0)
-
-pub lines-run-frame-store : OneExit 3 lines-run-frame-kinds.ps lines-run-frame-kinds.r lines-run-frame-reads.Post (λ κs s. s .1 .1 .1 .1 .1 .0 .now)
-lines-run-frame-store κs a x y s t p q = p .1 .0 ∙ sym (q .1 .0)
-
-pub lines-run-frame-work : OneExit 3 lines-run-frame-kinds.ps lines-run-frame-kinds.r lines-run-frame-reads.Post (λ κs s. s .1 .1 .1 .1 .1 .1 .0 .now)
-lines-run-frame-work κs a x y s t p q = p .1 .1 .0 ∙ sym (q .1 .1 .0)
-
-pub lines-run-frame-output : OneExit 3 lines-run-frame-kinds.ps lines-run-frame-kinds.r lines-run-frame-reads.Post (λ κs s. s .1 .1 .1 .1 .1 .1 .1 .0 .now)
-lines-run-frame-output κs a x y s t p q = p .1 .1 .1 ∙ sym (q .1 .1 .1)
-
-pub lines-close-frame : OneResult 3 lines-close-frame-kinds.ps lines-close-frame-kinds.r lines-close-frame-reads.Post
-lines-close-frame κs a x y s t p q = p .0 ∙ sym (q .0)
-
-pub lines-close-frame-store : OneExit 3 lines-close-frame-kinds.ps lines-close-frame-kinds.r lines-close-frame-reads.Post (λ κs s. s .1 .1 .1 .1 .0 .now)
-lines-close-frame-store κs a x y s t p q = p .1 .0 ∙ sym (q .1 .0)
-
-pub lines-close-frame-work : OneExit 3 lines-close-frame-kinds.ps lines-close-frame-kinds.r lines-close-frame-reads.Post (λ κs s. s .1 .1 .1 .1 .1 .0 .now)
-lines-close-frame-work κs a x y s t p q = p .1 .1 .0 ∙ sym (q .1 .1 .0)
-
-pub lines-close-frame-output : OneExit 3 lines-close-frame-kinds.ps lines-close-frame-kinds.r lines-close-frame-reads.Post (λ κs s. s .1 .1 .1 .1 .1 .1 .0 .now)
-lines-close-frame-output κs a x y s t p q = p .1 .1 .1 ∙ sym (q .1 .1 .1)
-
--- ---- silence
-
-pub silence-fresh : OneResult 1 silence-fresh-kinds.ps silence-fresh-kinds.r silence-fresh-reads.Post
-silence-fresh κs a x y s t p q = p .0 ∙ sym (q .0)
-
-pub silence-fresh-store : OneExit 1 silence-fresh-kinds.ps silence-fresh-kinds.r silence-fresh-reads.Post (λ κs s. s .1 .1 .0 .now)
-silence-fresh-store κs a x y s t p q = p .1 ∙ sym (q .1)
-
-pub silence-reset : OneResult 1 silence-reset-kinds.ps silence-reset-kinds.r silence-reset-reads.Post
-silence-reset κs a x y s t p q = p .0 ∙ sym (q .0)
-
-pub silence-reset-store : OneExit 1 silence-reset-kinds.ps silence-reset-kinds.r silence-reset-reads.Post (λ κs s. s .1 .0 .now)
-silence-reset-store κs a x y s t p q = p .1 ∙ sym (q .1)
-
-pub silence-quiet : OneResult 0 silence-quiet-kinds.ps silence-quiet-kinds.r silence-quiet-reads.Post
-silence-quiet κs a x y s t p q = p ∙ sym (q)
-
-pub silence-fallen : OneResult 0 silence-fallen-kinds.ps silence-fallen-kinds.r silence-fallen-reads.Post
-silence-fallen κs a x y s t p q = p ∙ sym (q)
+pub frame-close-frame : DeterminedWith3 3 frame-close-frame-kinds.ps frame-close-frame-kinds.r frame-close-frame-reads.Post (λ κs s. s .1 .1 .1 .1 .1 .0 .now) (λ κs s. s .1 .1 .1 .1 .1 .1 .0 .now) (λ κs s. s .1 .1 .1 .1 .1 .1 .1 .0 .now)
+frame-close-frame κs a x y s t p q = (p .0 ∙ sym (q .0), p .1 .0 ∙ sym (q .1 .0), p .1 .1 .0 ∙ sym (q .1 .1 .0), p .1 .1 .1 ∙ sym (q .1 .1 .1))
 
 -- ---- reverb
 
-pub reverb-apply : OneResult 5 reverb-apply-kinds.ps reverb-apply-kinds.r reverb-apply-reads.Post
-reverb-apply κs a x y s t p q = p .0 ∙ sym (q .0)
+pub reverb-fresh : DeterminedWith1 1 reverb-fresh-kinds.ps reverb-fresh-kinds.r reverb-fresh-reads.Post (λ κs s. s .1 .1 .0 .now)
+reverb-fresh κs a x y s t p q = (p .0 ∙ sym (q .0), p .1 ∙ sym (q .1))
 
-pub reverb-apply-store : OneExit 5 reverb-apply-kinds.ps reverb-apply-kinds.r reverb-apply-reads.Post (λ κs s. s .1 .1 .1 .1 .0 .now)
-reverb-apply-store κs a x y s t p q = p .1 .0 ∙ sym (q .1 .0)
+pub reverb-reset : DeterminedWith1 1 reverb-reset-kinds.ps reverb-reset-kinds.r reverb-reset-reads.Post (λ κs s. s .1 .0 .now)
+reverb-reset κs a x y s t p q = (p .0 ∙ sym (q .0), p .1 ∙ sym (q .1))
 
-pub reverb-apply-work : OneExit 5 reverb-apply-kinds.ps reverb-apply-kinds.r reverb-apply-reads.Post (λ κs s. s .1 .1 .1 .1 .1 .0 .now)
-reverb-apply-work κs a x y s t p q = p .1 .1 .0 ∙ sym (q .1 .1 .0)
+pub reverb-apply : DeterminedWith3 5 reverb-apply-kinds.ps reverb-apply-kinds.r reverb-apply-reads.Post (λ κs s. s .1 .1 .1 .1 .0 .now) (λ κs s. s .1 .1 .1 .1 .1 .0 .now) (λ κs s. s .1 .1 .1 .1 .1 .1 .0 .now)
+reverb-apply κs a x y s t p q = (p .0 ∙ sym (q .0), p .1 .0 ∙ sym (q .1 .0), p .1 .1 .0 ∙ sym (q .1 .1 .0), p .1 .1 .1 ∙ sym (q .1 .1 .1))
 
-pub reverb-apply-output : OneExit 5 reverb-apply-kinds.ps reverb-apply-kinds.r reverb-apply-reads.Post (λ κs s. s .1 .1 .1 .1 .1 .1 .0 .now)
-reverb-apply-output κs a x y s t p q = p .1 .1 .1 ∙ sym (q .1 .1 .1)
+pub reverb-tail : DeterminedWith3 3 reverb-tail-kinds.ps reverb-tail-kinds.r reverb-tail-reads.Post (λ κs s. s .1 .0 .now) (λ κs s. s .1 .1 .0 .now) (λ κs s. s .1 .1 .1 .0 .now)
+reverb-tail κs a x y s t p q = (p .0 ∙ sym (q .0), p .1 .0 ∙ sym (q .1 .0), p .1 .1 .0 ∙ sym (q .1 .1 .0), p .1 .1 .1 ∙ sym (q .1 .1 .1))
 
-pub reverb-tail : OneResult 3 reverb-tail-kinds.ps reverb-tail-kinds.r reverb-tail-reads.Post
-reverb-tail κs a x y s t p q = p .0 ∙ sym (q .0)
-
-pub reverb-tail-store : OneExit 3 reverb-tail-kinds.ps reverb-tail-kinds.r reverb-tail-reads.Post (λ κs s. s .1 .0 .now)
-reverb-tail-store κs a x y s t p q = p .1 .0 ∙ sym (q .1 .0)
-
-pub reverb-tail-work : OneExit 3 reverb-tail-kinds.ps reverb-tail-kinds.r reverb-tail-reads.Post (λ κs s. s .1 .1 .0 .now)
-reverb-tail-work κs a x y s t p q = p .1 .1 .0 ∙ sym (q .1 .1 .0)
-
-pub reverb-tail-output : OneExit 3 reverb-tail-kinds.ps reverb-tail-kinds.r reverb-tail-reads.Post (λ κs s. s .1 .1 .1 .0 .now)
-reverb-tail-output κs a x y s t p q = p .1 .1 .1 ∙ sym (q .1 .1 .1)
+pub reverb-filters-of : Determined 1 reverb-filters-of-kinds.ps reverb-filters-of-kinds.r reverb-filters-of-reads.Post
+reverb-filters-of κs a x y s t p q = p ∙ sym q
 
 -- ---- opening
 
-pub opening-open-apply : OneResult 4 opening-open-apply-kinds.ps opening-open-apply-kinds.r opening-open-apply-reads.Post
-opening-open-apply κs a x y s t p q = p .0 ∙ sym (q .0)
+pub opening-open-apply : DeterminedWith1 4 opening-open-apply-kinds.ps opening-open-apply-kinds.r opening-open-apply-reads.Post (λ κs s. s .1 .1 .1 .1 .1 .0 .now)
+opening-open-apply κs a x y s t p q = (p .0 ∙ sym (q .0), p .1 ∙ sym (q .1))
 
-pub opening-open-apply-work : OneExit 4 opening-open-apply-kinds.ps opening-open-apply-kinds.r opening-open-apply-reads.Post (λ κs s. s .1 .1 .1 .1 .1 .0 .now)
-opening-open-apply-work κs a x y s t p q = p .1 ∙ sym (q .1)
-
-pub opening-open-tail : OneResult 2 opening-open-tail-kinds.ps opening-open-tail-kinds.r opening-open-tail-reads.Post
-opening-open-tail κs a x y s t p q = p .0 ∙ sym (q .0)
-
-pub opening-open-tail-work : OneExit 2 opening-open-tail-kinds.ps opening-open-tail-kinds.r opening-open-tail-reads.Post (λ κs s. s .1 .1 .0 .now)
-opening-open-tail-work κs a x y s t p q = p .1 ∙ sym (q .1)
+pub opening-open-tail : DeterminedWith1 2 opening-open-tail-kinds.ps opening-open-tail-kinds.r opening-open-tail-reads.Post (λ κs s. s .1 .1 .0 .now)
+opening-open-tail κs a x y s t p q = (p .0 ∙ sym (q .0), p .1 ∙ sym (q .1))
 
 -- ---- jobs
 
-pub jobs-job-read : OneResult 2 jobs-job-read-kinds.ps jobs-job-read-kinds.r jobs-job-read-reads.Post
-jobs-job-read κs a x y s t p q = p .0 ∙ sym (q .0)
+pub jobs-job-read : DeterminedWith1 2 jobs-job-read-kinds.ps jobs-job-read-kinds.r jobs-job-read-reads.Post (λ κs s. s .1 .1 .1 .0 .now)
+jobs-job-read κs a x y s t p q = (p .0 ∙ sym (q .0), p .1 ∙ sym (q .1))
 
-pub jobs-job-read-work : OneExit 2 jobs-job-read-kinds.ps jobs-job-read-kinds.r jobs-job-read-reads.Post (λ κs s. s .1 .1 .1 .0 .now)
-jobs-job-read-work κs a x y s t p q = p .1 ∙ sym (q .1)
+pub jobs-job-mix : DeterminedWith1 1 jobs-job-mix-kinds.ps jobs-job-mix-kinds.r jobs-job-mix-reads.Post (λ κs s. s .1 .0 .now)
+jobs-job-mix κs a x y s t p q = (p .0 ∙ sym (q .0), p .1 ∙ sym (q .1))
 
-pub jobs-job-mix : OneResult 1 jobs-job-mix-kinds.ps jobs-job-mix-kinds.r jobs-job-mix-reads.Post
-jobs-job-mix κs a x y s t p q = p .0 ∙ sym (q .0)
+pub jobs-job-line : DeterminedWith1 1 jobs-job-line-kinds.ps jobs-job-line-kinds.r jobs-job-line-reads.Post (λ κs s. s .1 .1 .0 .now)
+jobs-job-line κs a x y s t p q = (p .0 ∙ sym (q .0), p .1 ∙ sym (q .1))
 
-pub jobs-job-mix-work : OneExit 1 jobs-job-mix-kinds.ps jobs-job-mix-kinds.r jobs-job-mix-reads.Post (λ κs s. s .1 .0 .now)
-jobs-job-mix-work κs a x y s t p q = p .1 ∙ sym (q .1)
-
-pub jobs-job-line : OneResult 1 jobs-job-line-kinds.ps jobs-job-line-kinds.r jobs-job-line-reads.Post
-jobs-job-line κs a x y s t p q = p .0 ∙ sym (q .0)
-
-pub jobs-job-line-work : OneExit 1 jobs-job-line-kinds.ps jobs-job-line-kinds.r jobs-job-line-reads.Post (λ κs s. s .1 .1 .0 .now)
-jobs-job-line-work κs a x y s t p q = p .1 ∙ sym (q .1)
-
-pub jobs-job-output : OneResult 1 jobs-job-output-kinds.ps jobs-job-output-kinds.r jobs-job-output-reads.Post
-jobs-job-output κs a x y s t p q = p .0 ∙ sym (q .0)
-
-pub jobs-job-output-work : OneExit 1 jobs-job-output-kinds.ps jobs-job-output-kinds.r jobs-job-output-reads.Post (λ κs s. s .1 .0 .now)
-jobs-job-output-work κs a x y s t p q = p .1 ∙ sym (q .1)
+pub jobs-job-output : DeterminedWith1 1 jobs-job-output-kinds.ps jobs-job-output-kinds.r jobs-job-output-reads.Post (λ κs s. s .1 .0 .now)
+jobs-job-output κs a x y s t p q = (p .0 ∙ sym (q .0), p .1 ∙ sym (q .1))
 
 -- ---- closing
 
-pub closing-close : OneResult 3 closing-close-kinds.ps closing-close-kinds.r closing-close-reads.Post
-closing-close κs a x y s t p q = p .0 ∙ sym (q .0)
+pub closing-close : DeterminedWith3 3 closing-close-kinds.ps closing-close-kinds.r closing-close-reads.Post (λ κs s. s .1 .0 .now) (λ κs s. s .1 .1 .0 .now) (λ κs s. s .1 .1 .1 .0 .now)
+closing-close κs a x y s t p q = (p .0 ∙ sym (q .0), p .1 .0 ∙ sym (q .1 .0), p .1 .1 .0 ∙ sym (q .1 .1 .0), p .1 .1 .1 ∙ sym (q .1 .1 .1))
 
-pub closing-close-store : OneExit 3 closing-close-kinds.ps closing-close-kinds.r closing-close-reads.Post (λ κs s. s .1 .0 .now)
-closing-close-store κs a x y s t p q = p .1 .0 ∙ sym (q .1 .0)
-
-pub closing-close-work : OneExit 3 closing-close-kinds.ps closing-close-kinds.r closing-close-reads.Post (λ κs s. s .1 .1 .0 .now)
-closing-close-work κs a x y s t p q = p .1 .1 .0 ∙ sym (q .1 .1 .0)
-
-pub closing-close-output : OneExit 3 closing-close-kinds.ps closing-close-kinds.r closing-close-reads.Post (λ κs s. s .1 .1 .1 .0 .now)
-closing-close-output κs a x y s t p q = p .1 .1 .1 ∙ sym (q .1 .1 .1)
-
-pub closing-abandon : OneResult 1 closing-abandon-kinds.ps closing-abandon-kinds.r closing-abandon-reads.Post
-closing-abandon κs a x y s t p q = p .0 ∙ sym (q .0)
-
-pub closing-abandon-work : OneExit 1 closing-abandon-kinds.ps closing-abandon-kinds.r closing-abandon-reads.Post (λ κs s. s .1 .0 .now)
-closing-abandon-work κs a x y s t p q = p .1 ∙ sym (q .1)
+pub closing-abandon : DeterminedWith1 1 closing-abandon-kinds.ps closing-abandon-kinds.r closing-abandon-reads.Post (λ κs s. s .1 .0 .now)
+closing-abandon κs a x y s t p q = (p .0 ∙ sym (q .0), p .1 ∙ sym (q .1))

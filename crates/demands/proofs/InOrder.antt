@@ -19,12 +19,13 @@ use Rattle.unit.specs.Model.{Model}
 use Rattle.unit.specs.Sizes.{jobsLen}
 use Rattle.unit.specs.Range.{inRange}
 use Rattle.judges.specs.Judges.{storeOk, workOk}
-use Rattle.turns.specs.Marks.{mixMark, lineMark, outputMark, allDone, allRead}
+use Rattle.judges.specs.Marks.{mixMark, lineMark, outputMark, allDone, allRead}
 use Rattle.rows.specs.Rows.{joined}
-use Rattle.opening.specs.Play.{Play}
-use Rattle.demands.specs.Jobs.{Memory, Job, readJob, mixJob, lineJob, outputJob, markOf}
-use Rattle.demands.specs.Calls.{start, job, answer, after}
-use Rattle.demands.specs.Requests.{own, Request, ask, request, requests}
+use Rattle.machine.specs.Whole.{Play}
+use Rattle.machine.specs.Ending.{Memory}
+use Rattle.machine.specs.Jobs.{Job, readJob, mixJob, lineJob, outputJob, markOf}
+use Rattle.machine.specs.Calls.{ending, start, job, answer, after}
+use Rattle.machine.specs.Requests.{own, Request, ask, request, requests}
 use Rattle.demands.specs.AnyOrder.{OwnJob, own-job, Between, Begins, worked, jobs, inOrder, InOrder}
 use Rattle.demands.proofs.AnyOrderMarks.{at, set-here, set-there, Legal, legal-none}
 use Rattle.demands.proofs.AnyOrderAt.{Opening, Fit, rowsAt, filtersAt, memoryAt, work-long}
@@ -121,7 +122,7 @@ module _ (m : Model) (w : Memory) (p : Play) (begins : Begins m (w .unit)) (e : 
     ranged = still-in-range m w p begins e (filtersAt m o marks) marks
 
     read-ok : (i : ℕ) → i < m .lines → (t : Upto i marks) → Marks m o h marks (t .legal) (readJob i)
-    unfolding answer
+    unfolding ending
     read-ok i b t =
         let free : not (at marks i) ≡ true = ap not (t .open-still i (omega arith) (omega arith)) in
         done m o h marks (t .legal) (readJob i)
@@ -132,7 +133,7 @@ module _ (m : Model) (w : Memory) (p : Play) (begins : Begins m (w .unit)) (e : 
     reads-set k b t = first-set (m .lines) marks (λ j c. t .done j (omega arith))
 
     mix-ok : (t : Upto (mixMark m) marks) → Marks m o h marks (t .legal) mixJob
-    unfolding answer
+    unfolding ending
     mix-ok t =
         let free : not (at marks (mixMark m)) ≡ true = ap not (t .open-still (mixMark m) (omega arith) (omega arith)) in
         done m o h marks (t .legal) mixJob
@@ -140,7 +141,7 @@ module _ (m : Model) (w : Memory) (p : Play) (begins : Begins m (w .unit)) (e : 
         (join-and (reads-set (mixMark m) (omega arith) t) free))
 
     line-ok : (i : ℕ) → i < m .lines → (t : Upto (lineMark m i) marks) → Marks m o h marks (t .legal) (lineJob i)
-    unfolding answer
+    unfolding ending
     line-ok i b t =
         let free : not (at marks (lineMark m i)) ≡ true = ap not (t .open-still (lineMark m i) (omega arith) (omega arith)) in
         done m o h marks (t .legal) (lineJob i)
@@ -148,7 +149,7 @@ module _ (m : Model) (w : Memory) (p : Play) (begins : Begins m (w .unit)) (e : 
         (join-and (t .done (mixMark m) (omega arith)) free))
 
     output-ok : (t : Upto (outputMark m) marks) → Marks m o h marks (t .legal) outputJob
-    unfolding answer
+    unfolding ending
     output-ok t =
         let free : not (at marks (outputMark m)) ≡ true = ap not (t .open-still (outputMark m) (omega arith) (omega arith)) in
         done m o h marks (t .legal) outputJob
@@ -202,10 +203,10 @@ module _ (m : Model) (w : Memory) (p : Play) (begins : Begins m (w .unit)) (e : 
       ∙ requests-on m v₂ (jobs lineJob 0 (m .lines)) (ours outputJob ∷ []) in
       rw (joins, ← l) put
 
-  done-all : allDone (worked m w p (inOrder m) .unit .marks) ≡ true
+  done-all : allDone (worked m w p (inOrder m) .unit .held .marks) ≡ true
   done-all =
       let t = all-reached in
-      ap (λ (v : Memory). allDone (v .unit .marks)) (t .is)
+      ap (λ (v : Memory). allDone (v .unit .held .marks)) (t .is)
       ∙ all-set 0 (t .marks) (λ j b. t .upto .done j (omega (arith, t .upto .legal .long)))
 
 pub in-order : InOrder

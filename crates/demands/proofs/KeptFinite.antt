@@ -11,7 +11,7 @@ use Rattle.samples.specs.Answers.{accept}
 use Rattle.samples.specs.Binary32.{+0, finite}
 use Rattle.samples.specs.Lists.{allFrom}
 use Rattle.search.specs.Search.{allFinite}
-use Rattle.samples.proofs.Laws.{split-and, join-and, needed}
+use Rattle.samples.proofs.Laws.{split-and, join-and}
 use Rattle.search.proofs.Finite.{finite-all, finite-append, finite-zeros, finite-cut}
 use Rattle.delay.specs.declared.Cursors.{Cursors}
 use Rattle.delay.specs.Calls.{both}
@@ -19,25 +19,24 @@ use Rattle.delay.specs.Ring.{write}
 use Rattle.delay.proofs.Laws.{all-write, accept-either}
 use Rattle.iir.specs.declared.Filter.{Filter}
 use Rattle.iir.specs.Nine.{nine, finiteFilter}
-use Rattle.unit.specs.Hall.{Hall}
+use Rattle.unit.specs.UnitState.{UnitState}
 use Rattle.unit.specs.Model.{Model}
 use Rattle.unit.specs.Sizes.{filtersLen}
-use Rattle.unit.specs.Fresh.{blank, freshHall}
-use Rattle.judges.specs.Judges.{judgedFresh, judgedReset}
-use Rattle.frame.specs.Frame.{Frame, newFilters}
-use Rattle.frame.specs.Settle.{filtersFinite, frameFinite, nineOf, putRows, settledIn}
-use Rattle.reverb.specs.Whole.{wholeAnswer, wholeUnit, wholeStore}
+use Rattle.unit.specs.Fresh.{blank, freshUnit}
+use Rattle.judges.specs.Judges.{judgedFresh}
+use Rattle.stages.specs.Frame.{Frame, newFilters}
+use Rattle.stages.specs.Settle.{filtersFinite, frameFinite, putRows, settled}
 use Rattle.rows.specs.Rows.{Rows, rowsOf}
-use Rattle.turns.specs.Turns.{judgedClose}
-use Rattle.opening.specs.Play.{frameFor, wholeDue}
-use Rattle.lines.specs.Parts.{rowsFinite}
-use Rattle.closing.specs.Close.{nineOfRows, closeAnswer, closeUnit, closeStore}
-use Rattle.demands.specs.Jobs.{Memory, jobFilters}
-use Rattle.demands.specs.Calls.{Call, reset, whole, start, job, close, abandon, answer, after}
-use Rattle.demands.specs.Requests.{Slice, own, other, lent, left, Request, fresh, ask, seen, request}
-use Rattle.demands.specs.Runs.{Event, anew, asked, begun, run}
+use Rattle.frame.specs.Parts.{rowsFinite}
+use Rattle.machine.specs.Ending.{Memory, Ending}
+use Rattle.machine.specs.Whole.{begun, frameFor}
+use Rattle.machine.proofs.Cases.{whole-either, close-either}
+use Rattle.machine.specs.Jobs.{jobFilters}
+use Rattle.machine.specs.Calls.{ending, Call, reset, whole, start, job, close, abandon, answer, after}
+use Rattle.machine.specs.Requests.{Slice, own, other, lent, left, Request, fresh, ask, seen, request}
+use Rattle.machine.specs.Runs.{Event, anew, asked, afresh, run}
 use Rattle.demands.specs.Demands.{keptFilters, Kept, KeptFinite}
-use Rattle.demands.proofs.Lent.{or-first, or-second, told, whole-lent, close-lent, job-busy}
+use Rattle.demands.proofs.Lent.{told, whole-lent, close-lent, job-busy}
 use Rattle.demands.proofs.AnyOrderOpen.{opened-told}
 
 -- ---- what is put into finite rings leaves them finite
@@ -64,10 +63,10 @@ pub record Finite (r : Frame) : Type 0 where
   pub put : allFinite (r .lines .put) ≡ true
   pub rings : allFinite (r .output .rings) ≡ true
 
-judged-finite : (r : Frame) → nineOf r ≡ Accepted → Finite r
+judged-finite : (r : Frame) → frameFinite r ≡ true → Finite r
 unfolding frameFinite
 judged-finite r e =
-    let p = split-and _ _ (needed (frameFinite r) NotFinite Accepted refl e .0) in
+    let p = split-and _ _ e in
     let q = split-and _ _ (p .1) in
     record { filters = p .0; put = q .0; rings = split-and (allFinite (r .output .out)) (allFinite (r .output .rings)) (q .1) .1 }
 
@@ -77,16 +76,16 @@ pub record FiniteRows (fs : List Filter) (r : Rows) : Type 0 where
   pub put : allFinite (r .mixed) ≡ true
   pub rings : allFinite (r .rings) ≡ true
 
-rows-finite : (fs : List Filter) (r : Rows) → nineOfRows fs r ≡ Accepted → FiniteRows fs r
+rows-finite : (fs : List Filter) (r : Rows) → rowsFinite fs r ≡ true → FiniteRows fs r
 unfolding rowsFinite
 rows-finite fs r e =
-    let p = split-and (filtersFinite fs) _ (needed (rowsFinite fs r) NotFinite Accepted refl e .0) in
+    let p = split-and (filtersFinite fs) _ e in
     let q = split-and (allFinite (r .mixed)) _ (p .1) in
     record { filters = p .0; put = q .0; rings = split-and (allFinite (r .output)) (allFinite (r .rings)) (q .1) .1 }
 
 -- ---- the filters, whatever the call is lent
 
-abbrev Fine : Hall → Type 0
+abbrev Fine : UnitState → Type 0
 Fine u = filtersFinite (keptFilters u) ≡ true
 
 finite-blank : (n k : ℕ) → allFrom (λ i f. finiteFilter f) k (replicate n blank) ≡ true
@@ -94,19 +93,19 @@ unfolding nine finite ofBits
 finite-blank zero k = refl
 finite-blank (suc n) k = finite-blank n (suc k)
 
-fresh-fine : (m : Model) (w : Memory) (rate frame : ℕ) → Fine (begun m w rate frame .unit)
+fresh-fine : (m : Model) (w : Memory) (rate frame : ℕ) → Fine (afresh m w rate frame .unit)
 unfolding filtersFinite
 fresh-fine m w rate frame =
-    accept-either Fine (judgedFresh m rate frame (length (w .store))) {new = freshHall m rate frame} {old = freshHall m 8000 4}
+    accept-either (λ (v : Memory). Fine (v .unit)) (judgedFresh m rate frame (length (w .store)))
     (λ e. finite-blank (filtersLen m) 0)
     (λ n. finite-blank (filtersLen m) 0)
 
 module _ (m : Model) where
   -- with a frame open they are those from before it, and else the unit's
-  from-before : (u : Hall) → u .busy ≡ true → Fine u → filtersFinite (u .before) ≡ true
+  from-before : (u : UnitState) → u .held .busy ≡ true → Fine u → filtersFinite (u .held .before) ≡ true
   from-before u b h = rw b at h
 
-  now : (u : Hall) → u .busy ≡ false → Fine u → filtersFinite (u .filters) ≡ true
+  now : (u : UnitState) → u .held .busy ≡ false → Fine u → filtersFinite (u .filters) ≡ true
   now u b h = rw b at h
 
   fine-now : (b : Bool) (before filters : List Filter) → b ≡ false → filtersFinite filters ≡ true → filtersFinite (cond b before filters) ≡ true
@@ -119,63 +118,81 @@ module _ (m : Model) where
   FineIn w = Fine (w .unit)
 
   call-fine : (w : Memory) (c : Call) → FineIn w → FineIn (after m w c)
-  unfolding answer after wholeUnit closeUnit
-  call-fine w reset h = accept-either Fine (judgedReset m (w .unit) (length (w .store))) (λ e. h) (λ n. h)
+  unfolding ending
+  call-fine w reset h = accept-either FineIn (answer m w reset) (λ e. h) (λ n. h)
   call-fine w (whole p output) h =
       let u = w .unit in
-      let due = wholeDue m u p (length (w .store)) (length (w .work)) (length output) in
-      let r = frameFor m u p (w .store) in
-      accept-either Fine (wholeAnswer due r)
-      (λ e.
-      let free = whole-lent m u (length (w .store)) (length (w .work)) (length output) p (or-first due (nineOf r) e) .free in
-      fine-now (u .busy) (u .before) (newFilters r) free (judged-finite r (or-second due (nineOf r) e) .filters))
+      whole-either m w output (λ (x : Ending). FineIn (x .memory)) p
+      (λ d q.
+      let free = whole-lent m u (length (w .store)) (length (w .work)) (length output) p d .free in
+      fine-now (u .held .busy) (u .held .before) _ free (judged-finite (frameFor m u p (w .store)) q .filters))
+      (λ d q. h)
       (λ n. h)
   call-fine w (start p) h = accept-either FineIn (answer m w (start p)) (λ e. now (w .unit) (opened-told m w p e .free) h) (λ n. h)
   call-fine w (job j) h =
       accept-either FineIn (answer m w (job j))
-      (λ e. let busy = job-busy m w j e in fine-before (w .unit .busy) (w .unit .before) (jobFilters m w j) busy (from-before (w .unit) busy h))
+      (λ e.
+      let busy = job-busy m w j e in
+      fine-before (w .unit .held .busy) (w .unit .held .before) (jobFilters m w j) busy (from-before (w .unit) busy h))
       (λ n. h)
   call-fine w (close output) h =
       let u = w .unit in
-      let due = judgedClose m u (length (w .store)) (length (w .work)) (length output) in
-      let r = rowsOf m (u .frame) (w .work) in
-      accept-either Fine due
-      (λ e.
-      accept-either Fine (nineOfRows (u .filters) r)
-      (λ q. rows-finite (u .filters) r q .filters)
-      (λ n. from-before u (close-lent m u (length (w .store)) (length (w .work)) (length output) e .busy) h))
+      close-either m w output (λ (x : Ending). FineIn (x .memory))
+      (λ d q. rows-finite (u .filters) (rowsOf m (u .settings .frame) (w .work)) q .filters)
+      (λ d q. from-before u (close-lent m u (length (w .store)) (length (w .work)) (length output) d .busy) h)
       (λ n. h)
   call-fine w abandon h =
-      accept-either FineIn (answer m w abandon) (λ e. from-before (w .unit) (told m (w .unit) _ _ (w .unit .busy) e .on-turn) h) (λ n. h)
+      accept-either FineIn (answer m w abandon) (λ e. from-before (w .unit) (told m (w .unit) _ _ (w .unit .held .busy) e .on-turn) h) (λ n. h)
+
+  -- ---- those held for an open frame
+
+  abbrev HeldIn : Memory → Type 0
+  HeldIn w = filtersFinite (w .unit .held .before) ≡ true
+
+  none-held : filtersFinite (replicate (filtersLen m) blank) ≡ true
+  unfolding filtersFinite
+  none-held = finite-blank (filtersLen m) 0
+
+  call-held : (w : Memory) (c : Call) → FineIn w → HeldIn w → HeldIn (after m w c)
+  unfolding ending
+  call-held w reset f h = accept-either HeldIn (answer m w reset) (λ e. h) (λ n. h)
+  call-held w (whole p output) f h = whole-either m w output (λ (x : Ending). HeldIn (x .memory)) p (λ d q. h) (λ d q. h) (λ n. h)
+  call-held w (start p) f h = accept-either HeldIn (answer m w (start p)) (λ e. now (w .unit) (opened-told m w p e .free) f) (λ n. h)
+  call-held w (job j) f h = accept-either HeldIn (answer m w (job j)) (λ e. h) (λ n. h)
+  call-held w (close output) f h =
+      close-either m w output (λ (x : Ending). HeldIn (x .memory)) (λ d q. none-held) (λ d q. none-held) (λ n. h)
+  call-held w abandon f h = accept-either HeldIn (answer m w abandon) (λ e. none-held) (λ n. h)
 
   -- ---- the store that a call is lent
 
-  silent-kept : (a : Answer) (store : List Float) → allFinite store ≡ true → allFinite (accept a (replicate (length store) +0) store) ≡ true
-  silent-kept a store h =
-      accept-either (λ (x : List Float). allFinite x ≡ true) a {new = replicate (length store) +0} {old = store} (λ e. finite-zeros (length store)) (λ n. h)
+  silent-kept : (rate frame : ℕ) (store : List Float) → allFinite store ≡ true → allFinite (begun m rate frame store .memory .store) ≡ true
+  silent-kept rate frame store h =
+      accept-either (λ (v : Memory). allFinite (v .store) ≡ true) (judgedFresh m rate frame (length store)) (λ e. finite-zeros (length store)) (λ n. h)
 
-  call-finite : (w : Memory) (c : Call) → allFinite (w .store) ≡ true → allFinite (after m w c .store) ≡ true
-  unfolding answer after wholeStore closeStore settledIn
-  call-finite w reset h = silent-kept (judgedReset m (w .unit) (length (w .store))) (w .store) h
+  abbrev Sound : Memory → Type 0
+  Sound v = allFinite (v .store) ≡ true
+
+  call-finite : (w : Memory) (c : Call) → Sound w → Sound (after m w c)
+  unfolding ending settled
+  call-finite w reset h = accept-either Sound (answer m w reset) (λ e. finite-zeros (length (w .store))) (λ n. h)
   call-finite w (whole p output) h =
-      let u = w .unit in
-      let due = wholeDue m u p (length (w .store)) (length (w .work)) (length output) in
-      let r = frameFor m u p (w .store) in
-      accept-either (λ (x : List Float). allFinite x ≡ true) (wholeAnswer due r)
-      (λ e. let k = judged-finite r (or-second due (nineOf r) e) in finite-put _ _ 0 _ _ (r .lines .put) (r .output .rings) (w .store) (k .put) (k .rings) h)
+      let r = frameFor m (w .unit) p (w .store) in
+      whole-either m w output (λ (x : Ending). Sound (x .memory)) p
+      (λ d q. let k = judged-finite r q in finite-put _ _ 0 _ _ (r .lines .put) (r .output .rings) (w .store) (k .put) (k .rings) h)
+      (λ d q. h)
       (λ n. h)
-  call-finite w (start p) h = accept-either (λ (v : Memory). allFinite (v .store) ≡ true) (answer m w (start p)) (λ e. h) (λ n. h)
-  call-finite w (job j) h = accept-either (λ (v : Memory). allFinite (v .store) ≡ true) (answer m w (job j)) (λ e. h) (λ n. h)
+  call-finite w (start p) h = accept-either Sound (answer m w (start p)) (λ e. h) (λ n. h)
+  call-finite w (job j) h = accept-either Sound (answer m w (job j)) (λ e. h) (λ n. h)
   call-finite w (close output) h =
-      let u = w .unit in
-      let due = judgedClose m u (length (w .store)) (length (w .work)) (length output) in
-      let r = rowsOf m (u .frame) (w .work) in
-      accept-either (λ (x : List Float). allFinite x ≡ true) (closeAnswer due u r)
-      (λ e.
-      let k = rows-finite (u .filters) r (or-second due (nineOfRows (u .filters) r) e) in
-      finite-put _ _ 0 _ _ (r .mixed) (r .rings) (w .store) (k .put) (k .rings) h)
+      let r = rowsOf m (w .unit .settings .frame) (w .work) in
+      close-either m w output (λ (x : Ending). Sound (x .memory))
+      (λ d q. let k = rows-finite (w .unit .filters) r q in finite-put _ _ 0 _ _ (r .mixed) (r .rings) (w .store) (k .put) (k .rings) h)
+      (λ d q. h)
       (λ n. h)
-  call-finite w abandon h = accept-either (λ (v : Memory). allFinite (v .store) ≡ true) (answer m w abandon) (λ e. h) (λ n. h)
+  call-finite w abandon h = accept-either Sound (answer m w abandon) (λ e. h) (λ n. h)
+
+  fresh-held : (w : Memory) (rate frame : ℕ) → HeldIn (afresh m w rate frame)
+  fresh-held w rate frame = accept-either HeldIn (judgedFresh m rate frame (length (w .store))) (λ e. none-held) (λ n. none-held)
 
   -- ---- the unit's own store, whatever is lent
 
@@ -187,22 +204,24 @@ module _ (m : Model) where
   request-kept : (w : Memory) (r : Request) → Kept w → Kept (request m w r)
   unfolding request
   request-kept w (fresh rate frame s) h = record {
-    store = own-finite s _ (w .store) (silent-kept (judgedFresh m rate frame (length (lent s (w .store)))) (lent s (w .store))) (h .store);
+    store = own-finite s _ (w .store) (silent-kept rate frame (lent s (w .store))) (h .store);
     filters = h .filters;
+    before = h .before;
   }
   request-kept w (ask c s k) h = record {
     store = own-finite s _ (w .store) (call-finite (seen w s k) c) (h .store);
     filters = call-fine (seen w s k) c (h .filters);
+    before = call-held (seen w s k) c (h .filters) (h .before);
   }
 
   run-kept : (w : Memory) (es : List Event) → Kept w → Kept (run m w es)
   unfolding run
   run-kept w [] h = h
   run-kept w (anew rate frame ∷ es) h =
-      run-kept (begun m w rate frame) es
-      (record { store = silent-kept (judgedFresh m rate frame (length (w .store))) (w .store) (h .store); filters = fresh-fine m w rate frame })
+      run-kept (afresh m w rate frame) es
+      (record { store = silent-kept rate frame (w .store) (h .store); filters = fresh-fine m w rate frame; before = fresh-held w rate frame })
   run-kept w (asked r ∷ es) h = run-kept (request m w r) es (request-kept w r h)
 
 pub kept-finite : KeptFinite
 kept-finite m w rate frame e es =
-    run-kept m (begun m w rate frame) es (record { store = rw e (finite-zeros (length (w .store))); filters = fresh-fine m w rate frame })
+    run-kept m (afresh m w rate frame) es (record { store = rw e (finite-zeros (length (w .store))); filters = fresh-fine m w rate frame; before = fresh-held m w rate frame })

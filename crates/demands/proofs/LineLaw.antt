@@ -11,61 +11,60 @@ use borrow.Author.Tests.{eqb-true, eq-eqb}
 use lib.Dec.{eqb}
 use lib.IntN.{pos}
 use lib.Ieee.{Float}
-use lib.ListN.{length, take, drop, replicate, length-append, length-take, length-replicate, length-set, getD-replicate, take-append-drop}
+use lib.ListN.{length, getD, take, drop, replicate, length-append, length-take, length-replicate, length-set, getD-replicate, take-append-drop}
 use lib.Seq.{take-at}
 use Rattle.samples.specs.Lists.{row}
 use Rattle.samples.specs.declared.Answer.{Answer}
 use Rattle.samples.specs.declared.Answer.the-variants.{Accepted}
-use Rattle.samples.specs.Answers.{accept, accepted, orElse}
+use Rattle.samples.specs.Answers.{accept, accepted}
 use Rattle.samples.specs.Binary32.{+0}
 use Rattle.samples.proofs.Laws.{split-and, is-accepted, accept-no}
 use Rattle.delay.specs.Calls.{both}
 use Rattle.delay.proofs.Laws.{accept-either, rotl-same}
-use Rattle.unit.specs.Hall.{Hall}
+use Rattle.unit.specs.UnitState.{UnitState}
 use Rattle.unit.specs.Model.{Model}
-use Rattle.unit.specs.Sizes.{lineLengths, jobsLen, storeLen, workLen}
-use Rattle.unit.specs.Fresh.{freshHall}
+use Rattle.unit.specs.Sizes.{lengths, jobsLen, storeLen, workLen, lengthsOf}
+use Rattle.unit.specs.Fresh.{freshUnit}
 use Rattle.judges.specs.Judges.{storeOk, workOk}
-use Rattle.frame.specs.Frame.{frameFrom, newFilters}
-use Rattle.frame.specs.Settle.{nineOf, settled, settledIn, allMoved, putRows}
-use Rattle.silence.specs.Silence.{counted}
-use Rattle.reverb.specs.Whole.{after as played, wholeAnswer, wholeUnit, wholeStore}
-use Rattle.turns.specs.Marks.{marked, mixMark, lineMark, outputMark}
+use Rattle.stages.specs.Frame.{frameFrom, newFilters}
+use Rattle.stages.specs.Settle.{settled, allMoved, putRows}
+use Rattle.machine.specs.Whole.{counted, movedOn, Play, countFor, frameFor, wholeDue}
+use Rattle.judges.specs.Marks.{marked, mixMark, lineMark, outputMark}
+use Rattle.judges.specs.Turns.{judgedClose}
 use Rattle.rows.specs.Rows.{rowsOf}
-use Rattle.turns.specs.Turns.{judgedClose}
-use Rattle.opening.specs.Play.{Play, apply, tail, countFor, frameFor, wholeDue, opened}
-use Rattle.jobs.specs.Steps.{markedUnit, readRow}
-use Rattle.closing.specs.Close.{nineOfRows, closed, shut, closeUnit, closeStore}
-use Rattle.demands.specs.Jobs.{Memory, Job, readJob, mixJob, lineJob, outputJob, jobWork}
-use Rattle.demands.specs.Calls.{Call, reset, whole, start, job, close, abandon, answer, after}
-use Rattle.demands.specs.Requests.{Slice, own, other, lent, left, Request, fresh, ask, seen, refusal, answerOf, request}
+use Rattle.machine.specs.Jobs.{unitOpened, unitMarked, readRow, unitClosed, unitShut, Job, readJob, mixJob, lineJob, outputJob, jobWork}
+use Rattle.machine.specs.Ending.{Memory, Ending, refused}
+use Rattle.machine.proofs.Cases.{whole-either, close-either}
+use Rattle.machine.specs.Calls.{ending, Call, reset, whole, start, job, close, abandon, answer, after}
+use Rattle.machine.specs.Requests.{Slice, own, other, lent, left, Request, fresh, ask, seen, refusal, answerOf, request}
 use Rattle.demands.specs.LineLaw.{Account, turned, noted, account, Plays, plays-whole, plays-start, plays-job, plays-close, plays-abandon}
 use Rattle.demands.specs.LineLaw.{AllPlay, Silent, freshly, by-reset, LineLaw}
-use Rattle.demands.proofs.Lent.{or-first, told, fresh-long, Lent, reset-lent, whole-lent, close-lent, whole-put, cursors, within}
-use Rattle.demands.proofs.LineRings.{ring-same, read-row, line-length, lines-held, length-moved}
+use Rattle.demands.proofs.Lent.{told, fresh-long, Lent, reset-lent, whole-lent, close-lent, whole-put, cursors, within}
+use Rattle.demands.proofs.LineRings.{ring-same, read-row, lines-held, length-moved}
 use Rattle.demands.proofs.LineTurn.{Turn, view, held, read-long, equal-moved, ring-turn, work-rows, read-left}
 use Rattle.demands.proofs.AnyOrderMarks.{true≢false, set-there, done-at}
-use Rattle.demands.proofs.AnyOrderRequests.{refused-no, stays}
+use Rattle.demands.proofs.AnyOrderRequests.{stays}
+use Rattle.demands.proofs.Refused.{refused-no}
 
 module _ (m : Model) (i : ℕ) (h : i < m .lines) (f : ℕ) where
   -- ---- what holds between calls
 
   -- of the unit: its frame, its lines' cursors and its marks
-  record Line (u : Hall) : Type 0 where
-    frame : u .frame ≡ f
-    lines : length (u .lines) ≡ m .lines
+  record Line (u : UnitState) : Type 0 where
+    frame : u .settings .frame ≡ f
+    lines : length (u .cursors .lines) ≡ m .lines
     equal : cursors u i .read ≡ cursors u i .write
-    marks : length (u .marks) ≡ jobsLen m
+    marks : length (u .held .marks) ≡ jobsLen m
 
   -- of the account
-  record Even (a : Account) (u : Hall) (store : List Float) : Type 0 where
-    all : replicate (m .delay i + f) +0 ++ a .given ≡ a .out ++ view m i (u .frame) (u .lines) store
+  record Even (a : Account) (u : UnitState) (store : List Float) : Type 0 where
+    all : replicate (getD (lengthsOf m f) i 0) +0 ++ a .given ≡ a .out ++ view m i (u .settings .frame) (u .cursors .lines) store
     long : length (a .out) ≡ length (a .given)
 
-  record Holds (u : Hall) (store : List Float) (a : Account) : Type 0 where
+  record Holds (u : UnitState) (store : List Float) (a : Account) : Type 0 where
     line : Line u
     even : Even a u store
-    waits : u .busy ≡ true → marked u i ≡ true → a .waiting ≡ readRow m u i store
+    waits : u .held .busy ≡ true → marked u i ≡ true → a .waiting ≡ readRow m u i store
 
   -- a turn of the view keeps the account
   turn-even : (zeros given out old new read put : List Float) → zeros ++ given ≡ out ++ old → Turn old new read put
@@ -87,26 +86,26 @@ module _ (m : Model) (i : ℕ) (h : i < m .lines) (f : ℕ) where
   -- ---- a frame that is accepted
 
   -- from u to v, which has its cursors moved, with the rows put; no frame is open then
-  frame-holds : (u v : Hall) (store rows rings read : List Float) (a : Account) → Holds u store a → Lent m u (length store)
-      → length rows ≡ m .lines * u .frame → read ≡ readRow m u i store
-      → v .frame ≡ u .frame → v .lines ≡ allMoved (u .frame) (lineLengths m (u .frame)) (u .lines) → length (v .marks) ≡ jobsLen m → v .busy ≡ false
-      → Holds v (putRows (u .frame) (m .lines) 0 (lineLengths m (u .frame)) (u .lines) rows rings store) (turned a read (row (u .frame) i rows))
+  frame-holds : (u v : UnitState) (store rows rings read : List Float) (a : Account) → Holds u store a → Lent m u (length store)
+      → length rows ≡ m .lines * u .settings .frame → read ≡ readRow m u i store
+      → v .settings .frame ≡ u .settings .frame → v .cursors .lines ≡ allMoved (u .settings .frame) (lengths m u) (u .cursors .lines) → length (v .held .marks) ≡ jobsLen m → v .held .busy ≡ false
+      → Holds v (putRows (u .settings .frame) (m .lines) 0 (lengths m u) (u .cursors .lines) rows rings store) (turned a read (row (u .settings .frame) i rows))
   frame-holds u v store rows rings read a inv lent e q vf vl vm vb =
       let line = inv .line in
       let t = ring-turn m i h u store lent (line .lines) (line .equal) rows rings e in
-      let g = u .frame in
+      let g = u .settings .frame in
       let put = row g i rows in
-      let new = view m i g (allMoved g (lineLengths m g) (u .lines)) (putRows g (m .lines) 0 (lineLengths m g) (u .lines) rows rings store) in
+      let new = view m i g (allMoved g (lengthsOf m g) (u .cursors .lines)) (putRows g (m .lines) 0 (lengthsOf m g) (u .cursors .lines) rows rings store) in
       record {
         line = record {
           frame = vf ∙ line .frame;
-          lines = ap length vl ∙ length-moved g (lineLengths m g) (u .lines) ∙ line .lines;
+          lines = ap length vl ∙ length-moved g (lengthsOf m g) (u .cursors .lines) ∙ line .lines;
           equal = rw vl (equal-moved m i h u store lent (line .lines) (line .equal));
           marks = vm;
         };
         even = rw (q, vl, vf)
             record {
-              all = turn-even (replicate (m .delay i + f) +0) (a .given) (a .out) _ new (readRow m u i store) put (inv .even .all) t;
+              all = turn-even (replicate (getD (lengthsOf m f) i 0) +0) (a .given) (a .out) _ new (readRow m u i store) put (inv .even .all) t;
               long = turn-long (a .given) (a .out) _ new (readRow m u i store) put (inv .even .long) t;
             };
         waits = λ b. absurd (true≢false (sym b ∙ vb));
@@ -114,8 +113,8 @@ module _ (m : Model) (i : ℕ) (h : i < m .lines) (f : ℕ) where
 
   -- ---- a call that leaves the store and the cursors
 
-  kept-holds : (u v : Hall) (store : List Float) (a : Account) → Holds u store a → v .frame ≡ u .frame → v .lines ≡ u .lines
-      → length (v .marks) ≡ jobsLen m → (v .busy ≡ true → marked v i ≡ true → a .waiting ≡ readRow m u i store) → Holds v store a
+  kept-holds : (u v : UnitState) (store : List Float) (a : Account) → Holds u store a → v .settings .frame ≡ u .settings .frame → v .cursors .lines ≡ u .cursors .lines
+      → length (v .held .marks) ≡ jobsLen m → (v .held .busy ≡ true → marked v i ≡ true → a .waiting ≡ readRow m u i store) → Holds v store a
   kept-holds u v store a inv vf vl vm w =
       let line = inv .line in
       record {
@@ -125,30 +124,30 @@ module _ (m : Model) (i : ℕ) (h : i < m .lines) (f : ℕ) where
       }
 
   -- a frame that is opened has no mark, and one that is shut isn't open
-  opened-holds : (u : Hall) (p : Play) (store : List Float) (a : Account) → Holds u store a → Holds (opened m u p) store a
+  opened-holds : (u : UnitState) (p : Play) (store : List Float) (a : Account) → Holds u store a → Holds (unitOpened m u p) store a
   opened-holds u p store a inv =
-      kept-holds u (opened m u p) store a inv refl refl (length-replicate (jobsLen m) false)
+      kept-holds u (unitOpened m u p) store a inv refl refl (length-replicate (jobsLen m) false)
       (λ b c. absurd (true≢false (sym c ∙ getD-replicate (jobsLen m) i false false (omega arith))))
 
-  shut-holds : (u : Hall) (store : List Float) (a : Account) → Holds u store a → Holds (shut m u) store a
+  shut-holds : (u : UnitState) (store : List Float) (a : Account) → Holds u store a → Holds (unitShut m u) store a
   shut-holds u store a inv =
-      kept-holds u (shut m u) store a inv refl refl (length-replicate (jobsLen m) false) (λ b c. absurd (true≢false (sym b)))
+      kept-holds u (unitShut m u) store a inv refl refl (length-replicate (jobsLen m) false) (λ b c. absurd (true≢false (sym b)))
 
   -- another job than read i
-  other-job : (u : Hall) (k : ℕ) (store : List Float) (a : Account) {fs : List _} → Holds u store a → (i ≡ k → ⊥) → Holds (markedUnit u k fs) store a
+  other-job : (u : UnitState) (k : ℕ) (store : List Float) (a : Account) {fs : List _} → Holds u store a → (i ≡ k → ⊥) → Holds (unitMarked u k fs) store a
   other-job u k store a {fs} inv apart =
-      kept-holds u (markedUnit u k fs) store a inv refl refl (length-set (u .marks) k true ∙ inv .line .marks)
-      (λ b c. inv .waits b (sym (set-there (u .marks) k i apart) ∙ c))
+      kept-holds u (unitMarked u k fs) store a inv refl refl (length-set (u .held .marks) k true ∙ inv .line .marks)
+      (λ b c. inv .waits b (sym (set-there (u .held .marks) k i apart) ∙ c))
 
   -- read i: its row waits
-  this-job : (u : Hall) (k : ℕ) (store waiting : List Float) (a : Account) {fs : List _} → Holds u store a → waiting ≡ readRow m u i store
-      → Holds (markedUnit u k fs) store (record { out = a .out; given = a .given; waiting = waiting })
+  this-job : (u : UnitState) (k : ℕ) (store waiting : List Float) (a : Account) {fs : List _} → Holds u store a → waiting ≡ readRow m u i store
+      → Holds (unitMarked u k fs) store (record { out = a .out; given = a .given; waiting = waiting })
   this-job u k store waiting a inv e = record {
     line = record {
       frame = inv .line .frame;
       lines = inv .line .lines;
       equal = inv .line .equal;
-      marks = length-set (u .marks) k true ∙ inv .line .marks;
+      marks = length-set (u .held .marks) k true ∙ inv .line .marks;
     };
     even = record { all = inv .even .all; long = inv .even .long };
     waits = λ b c. e;
@@ -156,15 +155,6 @@ module _ (m : Model) (i : ℕ) (h : i < m .lines) (f : ℕ) where
 
   -- ---- a call answered a
 
-  accept-holds : (a : Answer) (u′ u : Hall) (s′ s : List Float) (b′ b : Account) → (a ≡ Accepted → Holds u′ s′ b′) → Holds u s b
-      → Holds (accept a u′ u) (accept a s′ s) (accept a b′ b)
-  accept-holds a u′ u s′ s b′ b p q = go (accepted a) refl
-    where
-      go : (x : Bool) → accepted a ≡ x → Holds (accept a u′ u) (accept a s′ s) (accept a b′ b)
-      go true e = let r = is-accepted a e in rw r (p r)
-      go false e = simp accept-no q
-
-  -- the same of a memory
   memory-holds : (x : Answer) (new old : Memory) (b′ b : Account) → (x ≡ Accepted → Holds (new .unit) (new .store) b′) → Holds (old .unit) (old .store) b
       → Holds (accept x new old .unit) (accept x new old .store) (accept x b′ b)
   memory-holds x new old b′ b p q = go (accepted x) refl
@@ -173,80 +163,72 @@ module _ (m : Model) (i : ℕ) (h : i < m .lines) (f : ℕ) where
       go true e = let r = is-accepted x e in rw r (p r)
       go false e = simp accept-no q
 
-  -- a close: what is due of it, and 9
-  close-accepts : (due nine : Answer) (v s u : Hall) (new store : List Float) (b a : Account)
-      → (due ≡ Accepted → Holds v new b) → (due ≡ Accepted → Holds s store a) → Holds u store a
-      → Holds (accept due (accept nine v s) u) (accept (orElse due nine) new store) (accept (orElse due nine) b a)
-  close-accepts due nine v s u new store b a p q r = go (accepted due) refl
-    where
-      go : (x : Bool) → accepted due ≡ x → Holds (accept due (accept nine v s) u) (accept (orElse due nine) new store) (accept (orElse due nine) b a)
-      go true e = let d = is-accepted due e in rw d (accept-holds nine v s new store b a (λ n. p d) (q d))
-      go false e = simp accept-no r
-
   -- row i of what a whole call reads
-  whole-row : (u : Hall) (p : Play) (store : List Float) → Lent m u (length store) → row (u .frame) i (frameFor m u p store .reads) ≡ readRow m u i store
+  whole-row : (u : UnitState) (p : Play) (store : List Float) → Lent m u (length store) → row (u .settings .frame) i (frameFor m u p store .reads) ≡ readRow m u i store
   unfolding frameFrom
-  whole-row u (apply t coefficients input) store lent =
-      rw zero-add at (read-row (u .frame) (lineLengths m (u .frame)) (u .lines) (m .lines) 0 i store h (held m i h u store lent))
-  whole-row u tail store lent =
-      rw zero-add at (read-row (u .frame) (lineLengths m (u .frame)) (u .lines) (m .lines) 0 i store h (held m i h u store lent))
+  whole-row u p store lent =
+      rw zero-add at (read-row (u .settings .frame) (lengths m u) (u .cursors .lines) (m .lines) 0 i store h (held m i h u store lent))
 
   module _ (w : Memory) (a : Account) (inv : Holds (w .unit) (w .store) a) where
-    abbrev u : Hall
+    abbrev u : UnitState
     u = w .unit
 
     -- after the call c on w
     abbrev Then : Call → Type 0
     Then c = Holds (after m w c .unit) (after m w c .store) (noted m i w a c)
 
+    -- a call that ends in x, where an accepted one hands out `read` and is given `put`
+    abbrev Ends : List Float → List Float → Ending → Type 0
+    Ends read put x = Holds (x .memory .unit) (x .memory .store) (accept (x .answer) (turned a read put) a)
+
+    -- refused, it leaves all as it was
+    refused-holds : (read put : List Float) (due : Answer) (output : List Float) → accepted due ≡ false → Ends read put (refused due w output)
+    refused-holds read put due output n = rw (accept-no due (turned a read put) a n) inv
+
     whole-holds : (p : Play) (output : List Float) → Then (whole p output)
-    unfolding answer after noted wholeUnit wholeStore settledIn
+    unfolding ending noted settled
     whole-holds p output =
-        let due = wholeDue m u p (length (w .store)) (length (w .work)) (length output) in
         let r = frameFor m u p (w .store) in
-        let f = u .frame in
-        accept-holds (wholeAnswer due r) (played m u (newFilters r) (countFor u p)) u (settled m u r (w .store)) (w .store)
-        (turned a (row f i (r .reads)) (row f i (r .lines .put))) a
-        (λ e.
-        let t = whole-lent m u (length (w .store)) (length (w .work)) (length output) p (or-first due (nineOf r) e) in
-        frame-holds u (played m u (newFilters r) (countFor u p)) (w .store) (r .lines .put) (r .output .rings) (row f i (r .reads)) a inv (t .lent)
+        let f = u .settings .frame in
+        whole-either m w output (Ends (row f i (r .reads)) (row f i (r .lines .put))) p
+        (λ d q.
+        let t = whole-lent m u (length (w .store)) (length (w .work)) (length output) p d in
+        frame-holds u (movedOn m u (newFilters r) (countFor u p)) (w .store) (r .lines .put) (r .output .rings) (row f i (r .reads)) a inv (t .lent)
         (whole-put m u p (w .store) (t .input)) (whole-row u p (w .store) (t .lent)) refl refl (inv .line .marks) (t .free))
-        inv
+        (λ d q. inv)
+        (λ n. refused-holds (row f i (r .reads)) (row f i (r .lines .put)) (wholeDue m u p (length (w .store)) (length (w .work)) (length output)) output n)
 
     close-holds : (output : List Float) → Then (close output)
-    unfolding answer after noted closeUnit closeStore
+    unfolding ending noted
     close-holds output =
-        let due = judgedClose m u (length (w .store)) (length (w .work)) (length output) in
-        let f = u .frame in
+        let f = u .settings .frame in
         let r = rowsOf m f (w .work) in
-        close-accepts due (nineOfRows (u .filters) r) (closed m u) (shut m u) u
-        (putRows f (m .lines) 0 (lineLengths m f) (u .lines) (r .mixed) (r .rings) (w .store)) (w .store)
-        (turned a (a .waiting) (row f i (r .mixed))) a
-        (λ e.
-        let t = close-lent m u (length (w .store)) (length (w .work)) (length output) e in
-        frame-holds u (closed m u) (w .store) (r .mixed) (r .rings) (a .waiting) a inv (t .lent)
-        (work-rows m f (w .work) (t .work-long) .mixed) (inv .waits (t .busy) (done-at (u .marks) i (t .done) (omega (arith, inv .line .marks))))
+        close-either m w output (Ends (a .waiting) (row f i (r .mixed)))
+        (λ d q.
+        let t = close-lent m u (length (w .store)) (length (w .work)) (length output) d in
+        frame-holds u (unitClosed m u) (w .store) (r .mixed) (r .rings) (a .waiting) a inv (t .lent)
+        (work-rows m f (w .work) (t .work-long) .mixed) (inv .waits (t .busy) (done-at (u .held .marks) i (t .done) (omega (arith, inv .line .marks))))
         refl refl (length-replicate (jobsLen m) false) refl)
-        (λ e. shut-holds u (w .store) a inv)
-        inv
+        (λ d q. shut-holds u (w .store) a inv)
+        (λ n. refused-holds (a .waiting) (row f i (r .mixed)) (judgedClose m u (length (w .store)) (length (w .work)) (length output)) output n)
 
     -- a job
     abbrev Stands : Memory → Type 0
     Stands v = Holds (v .unit) (v .store) a
 
-    read-told : (j : ℕ) → answer m w (job (readJob j)) ≡ Accepted → Lent m u (length (w .store)) × (length (w .work) ≡ workLen m (u .frame))
-    unfolding answer
+    read-told : (j : ℕ) → answer m w (job (readJob j)) ≡ Accepted → Lent m u (length (w .store)) × (length (w .work) ≡ workLen m (u .settings .frame))
+    unfolding ending
     read-told j e =
         let t = told m u (storeOk m u (length (w .store)) && workOk m u (length (w .work))) _ _ e in
-        let l = split-and (storeOk m u (length (w .store))) (workOk m u (length (w .work))) (t .lengths-ok) in
+        let l = split-and (storeOk m u (length (w .store))) (workOk m u (length (w .work))) (t .slices-ok) in
         (record { range = t .range; long = eqb-true _ _ (l .0) }, eqb-true _ _ (l .1))
 
     read-holds : (j : ℕ) → Then (job (readJob j))
-    unfolding after noted
+    unfolding ending noted
     read-holds j = go (eqb j i) refl
       where
         left : List Float
-        left = row (u .frame) i (rowsOf m (u .frame) (jobWork m w (readJob j)) .reads)
+        left = row (u .settings .frame) i (rowsOf m (u .settings .frame) (jobWork m w (readJob j)) .reads)
 
         new : Account
         new = record { out = a .out; given = a .given; waiting = left }
@@ -254,11 +236,11 @@ module _ (m : Model) (i : ℕ) (h : i < m .lines) (f : ℕ) where
         its-row : j ≡ i → answer m w (job (readJob j)) ≡ Accepted → left ≡ readRow m u i (w .store)
         its-row q e =
             let t = read-told j e in
-            ap (λ (k : ℕ). row (u .frame) i (rowsOf m (u .frame) (jobWork m w (readJob k)) .reads)) q
+            ap (λ (k : ℕ). row (u .settings .frame) i (rowsOf m (u .settings .frame) (jobWork m w (readJob k)) .reads)) q
             ∙ read-left m u i (w .store) (w .work) h (t .1) (read-long m i h u (w .store) (t .0))
 
         then : Memory
-        then = record { unit = markedUnit u j (u .filters); store = w .store; work = jobWork m w (readJob j) }
+        then = record { unit = unitMarked u j (u .filters); store = w .store; work = jobWork m w (readJob j) }
 
         go : (b : Bool) → eqb j i ≡ b → Then (job (readJob j))
         go true e =
@@ -269,7 +251,7 @@ module _ (m : Model) (i : ℕ) (h : i < m .lines) (f : ℕ) where
             rw e (accept-either Stands (answer m w (job (readJob j))) (λ d. other-job u j (w .store) a inv apart) (λ n. inv))
 
     job-holds : (j : Job) → Then (job j)
-    unfolding after noted
+    unfolding ending noted
     job-holds (readJob j) = read-holds j
     job-holds mixJob =
         accept-either Stands (answer m w (job mixJob)) (λ e. other-job u (mixMark m) (w .store) a inv (λ q. omega arith)) (λ n. inv)
@@ -317,7 +299,7 @@ module _ (m : Model) (i : ℕ) (h : i < m .lines) (f : ℕ) where
 
   plays-holds : (w : Memory) (a : Account) (r : Request) → Plays r → Holds (w .unit) (w .store) a
       → Holds (request m w r .unit) (request m w r .store) (entered w a r)
-  unfolding request after noted
+  unfolding request ending noted
   plays-holds w a r (plays-whole p output k) inv = whole-holds (seen w own k) a inv p output
   plays-holds w a r (plays-start p s k) inv =
       accept-either (λ (v : Memory). Holds (v .unit) (left s (v .store) (w .store)) a) (answer m (seen w s k) (start p))
@@ -337,7 +319,7 @@ module _ (m : Model) (i : ℕ) (h : i < m .lines) (f : ℕ) where
 
   law : (w : Memory) (a : Account) (rs : List Request) → AllPlay m w rs → Holds (w .unit) (w .store) a
       → let b = account m i w a rs in
-      b .out ≡ take (length (b .given)) (replicate (m .delay i + f) +0 ++ b .given)
+      b .out ≡ take (length (b .given)) (replicate (getD (lengthsOf m f) i 0) +0 ++ b .given)
   unfolding account AllPlay
   law w a [] p inv = rw (inv .even .all) (sym (take-at (a .out) _ (length (a .given)) (inv .even .long)))
   law w a (fresh rate frame s ∷ rs) p inv =
@@ -351,29 +333,29 @@ abbrev nothing : Account
 nothing = record { out = []; given = []; waiting = [] }
 
 module _ (m : Model) (i : ℕ) (h : i < m .lines) where
-  silent-view : (u : Hall) (store : ℕ) → store ≡ storeLen m (u .frame) → cursors u i .read .0 ≤ m .delay i + u .frame
-      → view m i (u .frame) (u .lines) (replicate store +0) ≡ replicate (m .delay i + u .frame) +0
+  silent-view : (u : UnitState) (store : ℕ) → store ≡ storeLen m (lengths m u) → cursors u i .read .0 ≤ getD (lengths m u) i 0
+      → view m i (u .settings .frame) (u .cursors .lines) (replicate store +0) ≡ replicate (getD (lengths m u) i 0) +0
   unfolding storeLen
   silent-view u store e b =
-      let f = u .frame in
-      let same = ring-same f (lineLengths m f) (m .lines) 0 i store +0 h (lines-held m f store (omega arith)) in
-      rw (same, zero-add, line-length m f i h) (rotl-same (m .delay i + f) (cursors u i .read .0) +0 b)
+      let f = u .settings .frame in
+      let same = ring-same f (lengthsOf m f) (m .lines) 0 i store +0 h (lines-held m f store (omega arith)) in
+      rw (same, zero-add) (rotl-same (getD (lengthsOf m f) i 0) (cursors u i .read .0) +0 b)
 
   -- with no frame open
-  from-silence : (u : Hall) (store : ℕ) → store ≡ storeLen m (u .frame) → cursors u i .read .0 ≤ m .delay i + u .frame → u .busy ≡ false
-      → Line m i h (u .frame) u → Holds m i h (u .frame) u (replicate store +0) nothing
+  from-silence : (u : UnitState) (store : ℕ) → store ≡ storeLen m (lengths m u) → cursors u i .read .0 ≤ getD (lengths m u) i 0 → u .held .busy ≡ false
+      → Line m i h (u .settings .frame) u → Holds m i h (u .settings .frame) u (replicate store +0) nothing
   from-silence u store e b free line = record {
     line = line;
-    even = record { all = append-nil (replicate (m .delay i + u .frame) +0) ∙ sym (silent-view u store e b); long = refl };
+    even = record { all = append-nil (replicate (getD (lengths m u) i 0) +0) ∙ sym (silent-view u store e b); long = refl };
     waits = λ q. absurd (true≢false (sym q ∙ free));
   }
 
-  begins : (w : Memory) → Silent m w → Holds m i h (w .unit .frame) (w .unit) (w .store) nothing
-  unfolding answer after
+  begins : (w : Memory) → Silent m w → Holds m i h (w .unit .settings .frame) (w .unit) (w .store) nothing
+  unfolding ending
   begins w (freshly w₀ rate frame e) =
       let c = getD-replicate (m .lines) i (both 0) (both 0) h in
       rw e
-      (from-silence (freshHall m rate frame) (length (w₀ .store)) (fresh-long m rate frame (length (w₀ .store)) e) (rw c (omega arith)) refl
+      (from-silence (freshUnit m rate frame) (length (w₀ .store)) (fresh-long m rate frame (length (w₀ .store)) e) (rw c (omega arith)) refl
       record {
         frame = refl;
         lines = length-replicate (m .lines) (both 0);
@@ -389,4 +371,4 @@ module _ (m : Model) (i : ℕ) (h : i < m .lines) where
       record { frame = refl; lines = sized .lines; equal = together .lines i; marks = sized .marks })
 
 pub line-law : LineLaw
-line-law m w silent i h rs p = law m i h (w .unit .frame) w nothing rs p (begins m i h w silent)
+line-law m w silent i h rs p = law m i h (w .unit .settings .frame) w nothing rs p (begins m i h w silent)

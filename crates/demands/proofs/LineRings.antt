@@ -14,11 +14,11 @@ use Rattle.delay.specs.Ring.{read, write}
 use Rattle.delay.proofs.Laws.{length-read, length-write}
 use Rattle.unit.proofs.Ranges.{length-at, lengths-long}
 use Rattle.unit.specs.Model.{Model}
-use Rattle.unit.specs.Sizes.{lineLengths, total}
-use Rattle.frame.specs.Lines.{readRows}
-use Rattle.frame.specs.Settle.{putRows, movedBy, allMoved}
-use Rattle.frame.proofs.RowLaws.{Held, total-more}
-use Rattle.reads.specs.Rings.{ringAt}
+use Rattle.unit.specs.Sizes.{total, lengthsOf}
+use Rattle.stages.specs.Lines.{readRows}
+use Rattle.stages.specs.Settle.{putRows, movedBy, allMoved}
+use Rattle.stages.proofs.RowLaws.{Held, total-more}
+use Rattle.rows.specs.Rings.{ringAt}
 
 -- the line after i of those from j on is line i of those from j + 1 on
 on : (j i : ℕ) → j + suc i ≡ j + 1 + i
@@ -105,15 +105,15 @@ module _ (f : ℕ) (ls : List ℕ) where
 -- ---- a model's lines
 
 module _ (m : Model) (f : ℕ) where
-  pub lines-long : length (lineLengths m f) ≡ m .lines
+  pub lines-long : length (lengthsOf m f) ≡ m .lines
   lines-long = lengths-long m f (m .lines) 0
 
-  pub line-length : (i : ℕ) → i < m .lines → getD (lineLengths m f) i 0 ≡ m .delay i + f
+  pub line-length : (i : ℕ) → i < m .lines → getD (lengthsOf m f) i 0 ≡ m .delay i + f
   line-length i h = rw zero-add at (length-at m f (m .lines) 0 i h)
 
-  pub lines-held : (len : ℕ) → total (lineLengths m f) ≤ len → Held f (m .lines) 0 (lineLengths m f) len
+  pub lines-held : (len : ℕ) → total (lengthsOf m f) ≤ len → Held f (m .lines) 0 (lengthsOf m f) len
   lines-held len h =
-      let ls = lineLengths m f in
+      let ls = lengthsOf m f in
       let e : take (m .lines) ls ≡ ls = take-all (m .lines) ls (omega (arith, lines-long)) in
       held f ls (m .lines) 0 len (λ i b. rw (zero-add i) (omega (arith, line-length i b))) (rw e h)
 

@@ -14,14 +14,14 @@ use Rattle.delay.specs.declared.Cursors.{Cursors}
 use Rattle.delay.specs.Calls.{both}
 use Rattle.delay.specs.Ring.{rotl, wrap}
 use Rattle.delay.proofs.Laws.{wrap-mod, read-view, length-rotl, length-read, turn-view}
-use Rattle.unit.specs.Hall.{Hall}
+use Rattle.unit.specs.UnitState.{UnitState}
 use Rattle.unit.specs.Model.{Model}
-use Rattle.unit.specs.Sizes.{lineLengths, storeLen, workLen}
-use Rattle.frame.specs.Settle.{putRows, movedBy, allMoved}
-use Rattle.frame.proofs.RowLaws.{Held}
+use Rattle.unit.specs.Sizes.{storeLen, workLen, lengthsOf}
+use Rattle.stages.specs.Settle.{putRows, movedBy, allMoved}
+use Rattle.stages.proofs.RowLaws.{Held}
 use Rattle.rows.specs.Rows.{Rows, rowsOf}
-use Rattle.reads.specs.Rings.{ringAt}
-use Rattle.jobs.specs.Steps.{readRow, readWork}
+use Rattle.rows.specs.Rings.{ringAt}
+use Rattle.machine.specs.Jobs.{readRow, readWork}
 use Rattle.demands.proofs.Lent.{Lent, cursors, within}
 use Rattle.demands.proofs.LineRings.{row-long, ring-long, put-row, lines-long, line-length, lines-held}
 use Rattle.demands.proofs.LineRings.{moved-at}
@@ -37,14 +37,14 @@ pub record Turn (old new out given : List Float) : Type 0 where
 
 -- line i's ring as it lies from the read cursor on
 abbrev pub view : Model → ℕ → ℕ → List Cursors → List Float → List Float
-view m i f cs store = rotl (getD cs i (both 0) .read .0) (ringAt (lineLengths m f) 0 i store)
+view m i f cs store = rotl (getD cs i (both 0) .read .0) (ringAt (lengthsOf m f) 0 i store)
 
-module _ (m : Model) (i : ℕ) (h : i < m .lines) (u : Hall) (store : List Float) (lent : Lent m u (length store)) where
+module _ (m : Model) (i : ℕ) (h : i < m .lines) (u : UnitState) (store : List Float) (lent : Lent m u (length store)) where
   abbrev f : ℕ
-  f = u .frame
+  f = u .settings .frame
 
   abbrev ls : List ℕ
-  ls = lineLengths m f
+  ls = lengthsOf m f
 
   abbrev ring : List Float
   ring = ringAt ls 0 i store
@@ -56,40 +56,43 @@ module _ (m : Model) (i : ℕ) (h : i < m .lines) (u : Hall) (store : List Float
   unfolding storeLen
   held = lines-held m f (length store) (omega (arith, lent .long))
 
-  length-is : getD ls i 0 ≡ m .delay i + f
-  length-is = line-length m f i h
+  -- its length, which holds a frame
+  abbrev l : ℕ
+  l = getD ls i 0
 
-  ring-is : length ring ≡ m .delay i + f
-  ring-is = ring-long f ls (m .lines) 0 i store h held ∙ rw zero-add length-is
+  holds : f ≤ l
+  holds = omega (arith, line-length m f i h)
+
+  ring-is : length ring ≡ l
+  ring-is = rw zero-add at (ring-long f ls (m .lines) 0 i store h held)
 
   pub read-long : length (readRow m u i store) ≡ f
-  read-long = length-read ring k f (omega (arith, ring-is))
+  read-long = length-read ring k f (omega (arith, ring-is, holds))
 
   -- ---- a frame that puts the rows `rows`
 
-  module _ (lines : length (u .lines) ≡ m .lines) where
-    moved : getD (allMoved f ls (u .lines)) i (both 0) ≡ movedBy f (getD ls i 0) (cursors u i)
-    moved = moved-at f ls (u .lines) i (omega (arith, lines-long m f)) (omega arith)
+  module _ (lines : length (u .cursors .lines) ≡ m .lines) where
+    moved : getD (allMoved f ls (u .cursors .lines)) i (both 0) ≡ movedBy f (getD ls i 0) (cursors u i)
+    moved = moved-at f ls (u .cursors .lines) i (omega (arith, lines-long m f)) (omega arith)
 
     pub equal-moved : cursors u i .read ≡ cursors u i .write
-        → getD (allMoved f ls (u .lines)) i (both 0) .read ≡ getD (allMoved f ls (u .lines)) i (both 0) .write
+        → getD (allMoved f ls (u .cursors .lines)) i (both 0) .read ≡ getD (allMoved f ls (u .cursors .lines)) i (both 0) .write
     equal-moved e = rw moved (ap (λ (c : Samples). record { 0 = (c .0 + f) % getD ls i 0 }) e)
 
     pub ring-turn : cursors u i .read ≡ cursors u i .write → (rows rings : List Float) → length rows ≡ m .lines * f
-        → Turn (view m i f (u .lines) store) (view m i f (allMoved f ls (u .lines)) (putRows f (m .lines) 0 ls (u .lines) rows rings store))
+        → Turn (view m i f (u .cursors .lines) store) (view m i f (allMoved f ls (u .cursors .lines)) (putRows f (m .lines) 0 ls (u .cursors .lines) rows rings store))
         (readRow m u i store) (row f i rows)
     ring-turn equal rows rings e =
-        let l : ℕ = m .delay i + f in
         let put = row f i rows in
         let near : k < l = within m u i (lent .range) (omega arith) in
         let lp : length put ≡ f = row-long f (m .lines) i rows h e in
-        let on : (k + f) % l ≡ wrap (length ring) (k + length put) = rw (ring-is, lp) (sym (wrap-mod l (k + f) (omega arith))) in
+        let on : (k + f) % l ≡ wrap (length ring) (k + length put) = rw (ring-is, lp) (sym (wrap-mod l (k + f) (omega (arith, near, holds)))) in
         record {
-          fits = rw (length-rotl, ring-is, lp) (omega arith);
+          fits = rw (length-rotl, ring-is, lp) holds;
           taken = rw lp (read-view ring k f);
           then =
-              rw (moved, length-is, on, put-row f ls (u .lines) (m .lines) 0 i rows rings store h held, zero-add, ← equal)
-              (turn-view ring put k (omega (arith, ring-is)) (omega (arith, ring-is)));
+              rw (moved, on, put-row f ls (u .cursors .lines) (m .lines) 0 i rows rings store h held, zero-add, ← equal)
+              (turn-view ring put k (omega (arith, ring-is, near)) (omega (arith, ring-is, lp, holds)));
         }
 
 -- ---- rows of the work memory
@@ -121,12 +124,12 @@ work-rows m f work e =
     }
 
 -- what a read of line i leaves there
-pub read-left : (m : Model) (u : Hall) (i : ℕ) (store work : List Float) → i < m .lines → length work ≡ workLen m (u .frame)
-    → length (readRow m u i store) ≡ u .frame
-    → row (u .frame) i (rowsOf m (u .frame) (readWork m u i store work) .reads) ≡ readRow m u i store
+pub read-left : (m : Model) (u : UnitState) (i : ℕ) (store work : List Float) → i < m .lines → length work ≡ workLen m (u .settings .frame)
+    → length (readRow m u i store) ≡ u .settings .frame
+    → row (u .settings .frame) i (rowsOf m (u .settings .frame) (readWork m u i store work) .reads) ≡ readRow m u i store
 unfolding readWork
 read-left m u i store work h e l =
-    let f : ℕ = u .frame in
+    let f : ℕ = u .settings .frame in
     let r = rowsOf m f work in
     let long = work-rows m f work e in
     let s = row-set f (m .lines) i (readRow m u i store) (r .reads) h (long .reads) l in

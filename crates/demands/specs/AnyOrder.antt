@@ -4,20 +4,18 @@ use mathlib.Core.Path.{_≡_}
 use mathlib.Core.Bool.{true}
 use mathlib.Core.List.{List, [], _∷_, _++_}
 use mathlib.Core.Logic.{_⊎_}
-use lib.Ieee.{Float, binary32, fits}
+use lib.Ieee.{Float}
 use lib.ListN.{length}
 use Rattle.samples.specs.declared.Answer.the-variants.{Accepted, NotFinite}
-use Rattle.samples.specs.Lists.{allFrom}
-use Rattle.iir.specs.Nine.{nine}
-use Rattle.unit.specs.Hall.{Hall}
+use Rattle.unit.specs.UnitState.{UnitState}
 use Rattle.unit.specs.Model.{Model}
 use Rattle.unit.specs.Sizes.{Sized}
-use Rattle.turns.specs.Marks.{allDone}
-use Rattle.opening.specs.Play.{Play}
-use Rattle.closing.specs.Close.{cleared}
-use Rattle.demands.specs.Jobs.{Memory, Job, readJob, mixJob, lineJob, outputJob}
-use Rattle.demands.specs.Calls.{job, start, answer, after, atOnce, closing}
-use Rattle.demands.specs.Requests.{Request, ask, own, answerOf, request, requests, refusal}
+use Rattle.judges.specs.Marks.{allDone}
+use Rattle.machine.specs.Ending.{Memory, refused}
+use Rattle.machine.specs.Whole.{Play, wiped, atOnce}
+use Rattle.machine.specs.Jobs.{Job, readJob, mixJob, lineJob, outputJob, closed}
+use Rattle.machine.specs.Calls.{job, start, answer, after}
+use Rattle.machine.specs.Requests.{Request, ask, own, answerOf, request, requests, refusal}
 
 -- ---- what may come between open and close: "out of turn, wrong line, wrong lengths, foreign slices, whole calls and resets"
 
@@ -39,14 +37,11 @@ worked m w p rs = requests m (after m w (start p)) rs
 
 -- what is asked of the model and of the unit before the open. That it is in range, that it has no frame open and that its memory has its
 -- lengths is said by the open, which is accepted. Its cursors may be equal or not
-pub record Begins (m : Model) (u : Hall) : Type 0 where
+pub record Begins (m : Model) (u : UnitState) : Type 0 where
   -- two allpass stages, each of two rings
   pub passes : length (m .passes) ≡ 4
   -- lists as long as a `State`'s
   pub sized : Sized m u
-  -- while no frame is open the filters held for one are all +0, and a close makes them +0 again. The logic can write +0 in more ways than
-  -- binary32 has, as 0 times any power of two; a float of the machine has one. So this asks that they are floats of the machine
-  pub written : allFrom (λ k f. nine (fits binary32) f) 0 (u .before) ≡ true
 
 -- a frame p that is opened on the unit and memory w, and the requests made then
 pub record Working (m : Model) (w : Memory) (p : Play) (rs : List Request) : Type 0 where
@@ -59,21 +54,19 @@ pub record Working (m : Model) (w : Memory) (p : Play) (rs : List Request) : Typ
 abbrev pub AnyOrder : Type 0
 AnyOrder =
     (m : Model) (w : Memory) (p : Play) (rs : List Request) → Working m w p rs → (output : List Float)
-    → closing m (worked m w p rs) output .answer ≡ Accepted → closing m (worked m w p rs) output ≡ atOnce m w p output
+    → closed m (worked m w p rs) output .answer ≡ Accepted → closed m (worked m w p rs) output ≡ atOnce m w p output
 
 -- with all marks set, and an output of its length, the close is answered 0 or 9, as the whole call is; and after a 9 all is as it was before
 -- the open, the work memory all +0
 pub record Exactly (m : Model) (w : Memory) (p : Play) (rs : List Request) (output : List Float) : Type 0 where
-  pub same : closing m (worked m w p rs) output ≡ atOnce m w p output
+  pub same : closed m (worked m w p rs) output ≡ atOnce m w p output
   pub answered : (atOnce m w p output .answer ≡ Accepted) ⊎ (atOnce m w p output .answer ≡ NotFinite)
-  pub refused : atOnce m w p output .answer ≡ NotFinite
-      → (atOnce m w p output .memory ≡ record { unit = w .unit; store = w .store; work = cleared (w .work) })
-      × (atOnce m w p output .output ≡ output)
+  pub failed : atOnce m w p output .answer ≡ NotFinite → atOnce m w p output ≡ refused NotFinite (wiped w) output
 
 abbrev pub CloseRefusesExactly : Type 0
 CloseRefusesExactly =
-    (m : Model) (w : Memory) (p : Play) (rs : List Request) → Working m w p rs → allDone (worked m w p rs .unit .marks) ≡ true
-    → (output : List Float) → length output ≡ w .unit .frame → Exactly m w p rs output
+    (m : Model) (w : Memory) (p : Play) (rs : List Request) → Working m w p rs → allDone (worked m w p rs .unit .held .marks) ≡ true
+    → (output : List Float) → length output ≡ w .unit .settings .frame → Exactly m w p rs output
 
 -- ---- and a frame can be done as jobs
 
@@ -92,4 +85,4 @@ inOrder m =
 abbrev pub InOrder : Type 0
 InOrder =
     (m : Model) (w : Memory) (p : Play) → Begins m (w .unit) → answer m w (start p) ≡ Accepted
-    → Between m (after m w (start p)) (inOrder m) × (allDone (worked m w p (inOrder m) .unit .marks) ≡ true)
+    → Between m (after m w (start p)) (inOrder m) × (allDone (worked m w p (inOrder m) .unit .held .marks) ≡ true)

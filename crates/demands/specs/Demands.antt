@@ -7,25 +7,26 @@ use lib.ListN.{length}
 use Rattle.samples.specs.declared.Answer.the-variants.{Accepted}
 use Rattle.search.specs.Search.{allFinite}
 use Rattle.iir.specs.declared.Filter.{Filter}
-use Rattle.unit.specs.Hall.{Hall}
+use Rattle.unit.specs.UnitState.{UnitState}
 use Rattle.unit.specs.Model.{Model}
 use Rattle.judges.specs.Judges.{judgedFresh}
-use Rattle.frame.specs.Settle.{filtersFinite}
-use Rattle.demands.specs.Jobs.{Memory}
-use Rattle.demands.specs.Runs.{Event, begun, run}
+use Rattle.stages.specs.Settle.{filtersFinite}
+use Rattle.machine.specs.Ending.{Memory}
+use Rattle.machine.specs.Runs.{Event, afresh, run}
 
 -- the filters that are kept: with a frame open, those from before it
-abbrev pub keptFilters : Hall → List Filter
-keptFilters u = cond (u .busy) (u .before) (u .filters)
+abbrev pub keptFilters : UnitState → List Filter
+keptFilters u = cond (u .held .busy) (u .held .before) (u .filters)
 
--- every number that is kept is finite
+-- every number that is kept is finite: of the store, of the filters, and of those held for an open frame, which are blank while none is
 pub record Kept (w : Memory) : Type 0 where
   pub store : allFinite (w .store) ≡ true
   pub filters : filtersFinite (keptFilters (w .unit)) ≡ true
+  pub before : filtersFinite (w .unit .held .before) ≡ true
 
 -- "From an accepted fresh on, every kept number is finite whenever no frame is open"; and while one is, so are the store and the filters from
--- before it
+-- before it. The premise "while only the unit's own calls write its state and store" is that what happens is a list of events
 abbrev pub KeptFinite : Type 0
 KeptFinite =
     (m : Model) (w : Memory) (rate frame : ℕ) → judgedFresh m rate frame (length (w .store)) ≡ Accepted
-    → (es : List Event) → Kept (run m (begun m w rate frame) es)
+    → (es : List Event) → Kept (run m (afresh m w rate frame) es)

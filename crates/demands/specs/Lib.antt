@@ -1,9 +1,7 @@
 pub mod Determined
 pub mod Examples
-pub mod Jobs
-pub mod Calls
-pub mod Requests
+pub mod Refusals
 pub mod AnyOrder
-pub mod Runs
 pub mod Demands
 pub mod LineLaw
+pub mod FromFresh

@@ -1,5 +1,5 @@
 -- Demand 2: "A line of length L hands out what was put L samples earlier."
-use Prim.Native.Nat.{ℕ, _+_, _<_}
+use Prim.Native.Nat.{ℕ, _<_}
 use mathlib.Core.Path.{_≡_}
 use mathlib.Core.Bool.{true, cond}
 use mathlib.Core.List.{List, [], _∷_, _++_}
@@ -12,16 +12,17 @@ use Rattle.samples.specs.declared.Answer.the-variants.{Accepted}
 use Rattle.samples.specs.Answers.{accept}
 use Rattle.samples.specs.Binary32.{+0}
 use Rattle.delay.specs.Calls.{both}
-use Rattle.unit.specs.Hall.{Hall}
+use Rattle.unit.specs.UnitState.{UnitState}
 use Rattle.unit.specs.Model.{Model}
 use Rattle.judges.specs.Judges.{judgedFresh}
-use Rattle.unit.specs.Sizes.{Sized}
+use Rattle.unit.specs.Sizes.{lengths, Sized}
 use Rattle.rows.specs.Rows.{rowsOf}
-use Rattle.opening.specs.Play.{Play, frameFor}
-use Rattle.demands.specs.Jobs.{Memory, Job, readJob, mixJob, lineJob, outputJob, jobWork}
-use Rattle.demands.specs.Calls.{Call, reset, whole, start, job, close, abandon, answer, after}
-use Rattle.demands.specs.Requests.{Slice, own, Request, fresh, ask, seen, answerOf, request, refusal}
-use Rattle.demands.specs.Runs.{Event, begun, run}
+use Rattle.machine.specs.Whole.{Play, frameFor}
+use Rattle.machine.specs.Ending.{Memory}
+use Rattle.machine.specs.Jobs.{Job, readJob, mixJob, lineJob, outputJob, jobWork}
+use Rattle.machine.specs.Calls.{Call, reset, whole, start, job, close, abandon, answer, after}
+use Rattle.machine.specs.Requests.{Slice, own, Request, fresh, ask, seen, answerOf, request, refusal}
+use Rattle.machine.specs.Runs.{Event, afresh, run}
 
 -- ---- a line's account
 
@@ -41,19 +42,19 @@ turned a read put = record { out = a .out ++ read; given = a .given ++ put; wait
 unfoldable pub noted : Model → ℕ → Memory → Account → Call → Account
 noted m i w a reset = a
 noted m i w a (whole p output) =
-    let f = w .unit .frame in
+    let f = w .unit .settings .frame in
     let r = frameFor m (w .unit) p (w .store) in
     accept (answer m w (whole p output)) (turned a (row f i (r .reads)) (row f i (r .lines .put))) a
 noted m i w a (start p) = a
 noted m i w a (job (readJob j)) =
-    let f = w .unit .frame in
+    let f = w .unit .settings .frame in
     let left = row f i (rowsOf m f (jobWork m w (readJob j)) .reads) in
     cond (eqb j i) (accept (answer m w (job (readJob j))) (record { out = a .out; given = a .given; waiting = left }) a) a
 noted m i w a (job mixJob) = a
 noted m i w a (job (lineJob j)) = a
 noted m i w a (job outputJob) = a
 noted m i w a (close output) =
-    let f = w .unit .frame in
+    let f = w .unit .settings .frame in
     accept (answer m w (close output)) (turned a (a .waiting) (row f i (rowsOf m f (w .work) .mixed))) a
 noted m i w a abandon = a
 
@@ -80,13 +81,13 @@ AllPlay m w [] = Unit {0}
 AllPlay m w (r ∷ rs) = (Plays r ⊎ (refusal (answerOf m w r) ≡ true)) × AllPlay m (request m w r) rs
 
 -- both cursors of every ring are equal
-pub record Together (u : Hall) : Type 0 where
-  pub lines : (i : ℕ) → getD (u .lines) i (both 0) .read ≡ getD (u .lines) i (both 0) .write
-  pub passes : (i : ℕ) → getD (u .passes) i (both 0) .read ≡ getD (u .passes) i (both 0) .write
+pub record Together (u : UnitState) : Type 0 where
+  pub lines : (i : ℕ) → getD (u .cursors .lines) i (both 0) .read ≡ getD (u .cursors .lines) i (both 0) .write
+  pub passes : (i : ℕ) → getD (u .cursors .passes) i (both 0) .read ≡ getD (u .cursors .passes) i (both 0) .write
 
 -- a unit in which no sound is left: after an accepted fresh, or after an accepted reset with the cursors equal
 pub data Silent (m : Model) : Memory → Type 0 where
-  freshly : (w : Memory) (rate frame : ℕ) → judgedFresh m rate frame (length (w .store)) ≡ Accepted → Silent m (begun m w rate frame)
+  freshly : (w : Memory) (rate frame : ℕ) → judgedFresh m rate frame (length (w .store)) ≡ Accepted → Silent m (afresh m w rate frame)
   by-reset : (w : Memory) → Sized m (w .unit) → answer m w reset ≡ Accepted → Together (w .unit) → Silent m (after m w reset)
 
 -- sample t of what line i hands out is sample t - L of what it was given, or +0 where t < L
@@ -94,10 +95,10 @@ abbrev pub LineLaw : Type 0
 LineLaw =
     (m : Model) (w : Memory) → Silent m w → (i : ℕ) → i < m .lines → (rs : List Request) → AllPlay m w rs
     → let a = account m i w (record { out = []; given = []; waiting = [] }) rs in
-    a .out ≡ take (length (a .given)) (replicate (m .delay i + w .unit .frame) +0 ++ a .given)
+    a .out ≡ take (length (a .given)) (replicate (getD (lengths m (w .unit)) i 0) +0 ++ a .given)
 
 -- in every state that calls lead to from an accepted fresh
 abbrev pub CursorsTogether : Type 0
 CursorsTogether =
     (m : Model) (w : Memory) (rate frame : ℕ) → judgedFresh m rate frame (length (w .store)) ≡ Accepted
-    → (es : List Event) → Together (run m (begun m w rate frame) es .unit)
+    → (es : List Event) → Together (run m (afresh m w rate frame) es .unit)

@@ -6,7 +6,7 @@ use unit::State;
 
 // What a fresh unit answers for frames of that many samples, on a store of their length.
 fn size(frame: usize, store: &mut [f32]) {
-    let a = silence::fresh(48000, frame, store);
+    let a = reverb::fresh(48000, frame, store);
     let answer = a.answer;
     io::write_all(STDOUT_FILENO, b"a frame of ");
     io::print_decimal(STDOUT_FILENO, frame as u64);
@@ -58,7 +58,7 @@ fn first(s: State, store: &mut [f32], work: &mut [f32], output: &mut [f32]) -> S
 
 // A click, and three frames after it.
 fn click(store: &mut [f32], work: &mut [f32]) {
-    let fresh = silence::fresh(48000, 128, store);
+    let fresh = reverb::fresh(48000, 128, store);
     let mut output = [0.0f32; 128];
     let mut state = first(fresh.state, store, work, &mut output);
     show(&output, 0);

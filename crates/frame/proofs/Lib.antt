@@ -1,4 +1,7 @@
-pub mod RowTurns
-pub mod RowLaws
-pub mod Moved
-pub mod FrameLaws
+pub mod LineLaws
+pub mod LineTurns
+pub mod LineFills
+pub mod RowJoins
+pub mod FrameParts
+pub mod Room
+pub mod RowsOf

@@ -1,4 +1,3 @@
-pub mod Lines
+pub mod Work
+pub mod Parts
 pub mod Steps
-pub mod Frame
-pub mod Settle

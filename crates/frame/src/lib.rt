@@ -1,10 +1,172 @@
-// One frame as one definition, and the steps of it that any stretch of memory takes.
+// A whole frame on lent memory, by steps over the lines that know neither how many there are nor how
+// long their rings are.
 //
-// Its contracts cite `specs/`: the rows of the lines, the whole frame with a name for each stage, and
-// what a frame leaves behind.
-mod rows;
+// Its contracts cite `specs/`: how a frame lies in the work memory, what the steps ask of the memory
+// lent, and what a frame leaves of it.
+mod steps;
+mod whole;
 
-pub use rows::add_first;
-pub use rows::copy;
-pub use rows::divide;
-pub use rows::filters_finite;
+use crate::steps::move_lines;
+use crate::steps::move_passes;
+use crate::whole::finish_frame;
+use crate::whole::judge_frame;
+use delay::Cursors;
+use iir::Filter;
+use unit::PASSES;
+use unit::room_ok;
+ghost use mathlib.Core.Path.{_≡_};
+ghost use Prim.Native.Nat.{_≤_};
+ghost use lib.ListN.{length};
+ghost use Rattle.unit.specs.Model.{wall};
+ghost use Rattle.stages.specs.Settle.{allMoved};
+ghost use Rattle.frame.specs.Work.{Within, WholeFits};
+ghost use Rattle.frame.specs.Steps.{ran, ranWithRoom, finished, finishedWithRoom};
+
+// What a frame came to: whether all of it is finite, its filters, and the cursors of the rings after
+// it.
+pub struct Stepped {
+    pub ok: bool,
+    pub filters: [Filter; 51],
+    pub lines: [Cursors; 16],
+    pub passes: [Cursors; 4],
+}
+
+// A whole frame of the wall unit: through the filters `fs`, on lines of the lengths `ls` with the cursors
+// `cs`, and on allpass rings with `qs`. The work memory begins with the input, which a tail doesn't add.
+// Where all of it is finite the frame is put into the store and the output. The work memory is cleared.
+// Where the memory lent has no room for it nothing is done.
+pub fn run_frame(
+    f: usize,
+    ls: [usize; 16],
+    tail: bool,
+    cs: [Cursors; 16],
+    qs: [Cursors; 4],
+    fs: [Filter; 51],
+    store: &mut [f32],
+    work: &mut [f32],
+    output: &mut [f32],
+) -> Stepped
+    ensures { λ r. ⌜ r ≡ ran wall f ls tail cs qs fs (now (store .entry)) (now (work .entry)) (now (output .entry)) .stepped ⌝ }
+    ensures { λ _. ⌜ now (store .exit) ≡ ran wall f ls tail cs qs fs (now (store .entry)) (now (work .entry)) (now (output .entry)) .store ⌝ }
+    ensures { λ _. ⌜ now (work .exit) ≡ ran wall f ls tail cs qs fs (now (store .entry)) (now (work .entry)) (now (output .entry)) .work ⌝ }
+    ensures { λ _. ⌜ now (output .exit) ≡ ran wall f ls tail cs qs fs (now (store .entry)) (now (work .entry)) (now (output .entry)) .output ⌝ }
+{
+    if !room_ok(f, ls, cs, qs, store.len(), work.len(), output.len()) {
+        return Stepped {
+            ok: false,
+            filters: fs,
+            lines: cs,
+            passes: qs,
+        };
+    }
+    wall_frame(f, ls, tail, cs, qs, fs, store, work, output)
+}
+
+// The same in memory that has room for it.
+fn wall_frame(
+    f: usize,
+    ls: [usize; 16],
+    tail: bool,
+    cs: [Cursors; 16],
+    qs: [Cursors; 4],
+    fs: [Filter; 51],
+    store: &mut [f32],
+    work: &mut [f32],
+    output: &mut [f32],
+) -> Stepped
+    requires { ⌜ WholeFits wall f ls cs qs (length (now store)) (length (now work)) (length (now output)) ⌝ }
+    ensures { λ r. ⌜ r ≡ ranWithRoom wall f ls tail cs qs fs (now (store .entry)) (now (work .entry)) (now (output .entry)) .stepped ⌝ }
+    ensures { λ _. ⌜ now (store .exit) ≡ ranWithRoom wall f ls tail cs qs fs (now (store .entry)) (now (work .entry)) (now (output .entry)) .store ⌝ }
+    ensures { λ _. ⌜ now (work .exit) ≡ ranWithRoom wall f ls tail cs qs fs (now (store .entry)) (now (work .entry)) (now (output .entry)) .work ⌝ }
+    ensures { λ _. ⌜ now (output .exit) ≡ ranWithRoom wall f ls tail cs qs fs (now (store .entry)) (now (work .entry)) (now (output .entry)) .output ⌝ }
+{
+    let r = judge_frame(
+        16,
+        f,
+        0.25,
+        16.0,
+        tail,
+        ls,
+        cs,
+        PASSES,
+        qs,
+        fs,
+        store,
+        work,
+        output,
+    );
+    let filters = r.filters;
+    moved_on(r.ok, f, ls, cs, qs, filters)
+}
+
+// What a frame came to, its filters `fs`, with the cursors moved on.
+fn moved_on(
+    ok: bool,
+    f: usize,
+    ls: [usize; 16],
+    cs: [Cursors; 16],
+    qs: [Cursors; 4],
+    fs: [Filter; 51],
+) -> Stepped
+    requires { ⌜ (f ≤ 1024) × Within 16 0 ls cs × Within 4 0 (wall .passes) qs ⌝ }
+    ensures { λ r. ⌜ r ≡ record { ok = ok; filters = fs; lines = allMoved f ls cs; passes = allMoved f (wall .passes) qs } ⌝ }
+{
+    let lines = move_lines(16, f, ls, cs);
+    let passes = move_passes(f, PASSES, qs);
+    Stepped {
+        ok,
+        filters: fs,
+        lines,
+        passes,
+    }
+}
+
+// The end of a frame that lies in the work memory: where all of it is finite, it is put into the
+// store and the output. The work memory is cleared. Where the memory lent has no room for a frame
+// nothing is done.
+pub fn close_frame(
+    f: usize,
+    ls: [usize; 16],
+    cs: [Cursors; 16],
+    qs: [Cursors; 4],
+    fs: [Filter; 51],
+    store: &mut [f32],
+    work: &mut [f32],
+    output: &mut [f32],
+) -> Stepped
+    ensures { λ r. ⌜ r ≡ finished wall f ls cs qs fs (now (store .entry)) (now (work .entry)) (now (output .entry)) .stepped ⌝ }
+    ensures { λ _. ⌜ now (store .exit) ≡ finished wall f ls cs qs fs (now (store .entry)) (now (work .entry)) (now (output .entry)) .store ⌝ }
+    ensures { λ _. ⌜ now (work .exit) ≡ finished wall f ls cs qs fs (now (store .entry)) (now (work .entry)) (now (output .entry)) .work ⌝ }
+    ensures { λ _. ⌜ now (output .exit) ≡ finished wall f ls cs qs fs (now (store .entry)) (now (work .entry)) (now (output .entry)) .output ⌝ }
+{
+    if !room_ok(f, ls, cs, qs, store.len(), work.len(), output.len()) {
+        return Stepped {
+            ok: false,
+            filters: fs,
+            lines: cs,
+            passes: qs,
+        };
+    }
+    wall_close(f, ls, cs, qs, fs, store, work, output)
+}
+
+// The same in memory that has room for it.
+fn wall_close(
+    f: usize,
+    ls: [usize; 16],
+    cs: [Cursors; 16],
+    qs: [Cursors; 4],
+    fs: [Filter; 51],
+    store: &mut [f32],
+    work: &mut [f32],
+    output: &mut [f32],
+) -> Stepped
+    requires { ⌜ WholeFits wall f ls cs qs (length (now store)) (length (now work)) (length (now output)) ⌝ }
+    ensures { λ r. ⌜ r ≡ finishedWithRoom wall f ls cs qs fs (now (store .entry)) (now (work .entry)) (now (output .entry)) .stepped ⌝ }
+    ensures { λ _. ⌜ now (store .exit) ≡ finishedWithRoom wall f ls cs qs fs (now (store .entry)) (now (work .entry)) (now (output .entry)) .store ⌝ }
+    ensures { λ _. ⌜ now (work .exit) ≡ finishedWithRoom wall f ls cs qs fs (now (store .entry)) (now (work .entry)) (now (output .entry)) .work ⌝ }
+    ensures { λ _. ⌜ now (output .exit) ≡ finishedWithRoom wall f ls cs qs fs (now (store .entry)) (now (work .entry)) (now (output .entry)) .output ⌝ }
+{
+    let ok = finish_frame(16, f, ls, cs, fs, store, work, output);
+    moved_on(ok, f, ls, cs, qs, fs)
+}

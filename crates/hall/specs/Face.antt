@@ -9,7 +9,7 @@ use Rattle.delay.specs.declared.Four.{Four}
 use Rattle.delay.specs.declared.FourAnswer.{FourAnswer}
 use Rattle.delay.specs.declared.RingAnswer.{RingAnswer}
 use Rattle.primes.specs.declared.Value.{Value}
-use Rattle.silence.specs.declared.Outcome.{Outcome}
+use Rattle.unit.specs.declared.Outcome.{Outcome}
 use Rattle.hall.specs.declared.HallAnswer.{HallAnswer}
 use Rattle.hall.specs.declared.HallFourAnswer.{HallFourAnswer}
 use Rattle.hall.specs.declared.HallRingAnswer.{HallRingAnswer}

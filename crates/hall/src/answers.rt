@@ -9,7 +9,7 @@ use delay::RingAnswer;
 use primes::Value;
 use samples::index;
 use samples::number;
-use silence::Outcome;
+use unit::Outcome;
 ghost use mathlib.Core.Path.{_≡_};
 ghost use Rattle.hall.specs.Face.{remains, faced, facedRing, facedFour, facedValue};
 

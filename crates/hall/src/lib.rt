@@ -10,9 +10,38 @@ mod rings;
 mod steps;
 mod units;
 
+pub use buffers::hall_buffer_mix;
+pub use buffers::hall_channel_number;
+pub use buffers::hall_deinterleave;
+pub use buffers::hall_downmix;
+pub use buffers::hall_interleave;
+pub use buffers::hall_make_silent;
+pub use buffers::hall_scale;
 use delay::Cursors;
 use delay::Four;
+pub use delays::hall_delay_min;
+pub use delays::hall_delay_value;
+pub use delays::hall_prime_power;
+pub use open_frames::hall_abandon;
+pub use open_frames::hall_close;
+pub use open_frames::hall_job_line;
+pub use open_frames::hall_job_mix;
+pub use open_frames::hall_job_output;
+pub use open_frames::hall_job_read;
+pub use open_frames::hall_open_apply;
+pub use open_frames::hall_open_tail;
+pub use rings::hall_ring_get;
+pub use rings::hall_ring_get4;
+pub use rings::hall_ring_put;
+pub use rings::hall_ring_put4;
+pub use rings::hall_ring_reset;
+pub use steps::hall_filter_run;
+pub use steps::hall_mix16;
 use unit::State;
+pub use units::hall_apply;
+pub use units::hall_fresh;
+pub use units::hall_reset;
+pub use units::hall_tail;
 
 // A call of the unit: its number, the first bad sample, whether the tail has frames left, the state.
 #[repr(C)]

@@ -4,20 +4,11 @@ use crate::answers::faced;
 use bands::Times;
 use unit::State;
 ghost use mathlib.Core.Path.{_≡_};
-ghost use lib.ListN.{length, replicate};
-ghost use Rattle.samples.specs.Answers.{accept};
-ghost use Rattle.samples.specs.Binary32.{+0};
-ghost use Rattle.audio_buffer.specs.declared.AudioEffectState.the-variants.{TailComplete};
-ghost use Rattle.unit.specs.Hall.{ofState};
+ghost use mathlib.Core.List.{[]};
 ghost use Rattle.unit.specs.Model.{wall};
-ghost use Rattle.turns.specs.Marks.{mixMark, lineMark, outputMark};
-ghost use Rattle.turns.specs.Turns.{judgedOpenApply, judgedOpenTail, judgedRead, judgedMix, judgedLine, judgedOutput, judgedClose, judgedAbandon};
-ghost use Rattle.rows.specs.Rows.{rowsOf};
-ghost use Rattle.silence.specs.Silence.{outcome};
-ghost use Rattle.opening.specs.Play as Play;
-ghost use Rattle.opening.specs.Play.{opened, openWork};
-ghost use Rattle.jobs.specs.Steps.{markedUnit, readWork, mixWork, lineWork, lineFilters, outputWork, outputFilters};
-ghost use Rattle.closing.specs.Close.{shut, cleared, closeAnswer, closeUnit, closeStore, closeWork, closeOutput, closeVerdict};
+ghost use Rattle.machine.specs.Ending.{lend, given};
+ghost use Rattle.machine.specs.Whole as Play;
+ghost use Rattle.machine.specs.Jobs.{opened, readJob, mixJob, lineJob, outputJob, done, closed, abandoned};
 ghost use Rattle.hall.specs.Face.{faced, times};
 
 // Begins a frame of input, to be done as jobs.
@@ -32,8 +23,8 @@ pub extern "C" fn hall_open_apply(
     store: &[f32],
     work: &mut [f32],
 ) -> HallAnswer
-    ensures { λ r. ⌜ r ≡ faced (outcome (judgedOpenApply wall (ofState s) (times t0 t1 t2) (now (coefficients .entry)) (now (input .entry)) (length (now (store .entry))) (length (now (work .entry)))) (accept (judgedOpenApply wall (ofState s) (times t0 t1 t2) (now (coefficients .entry)) (now (input .entry)) (length (now (store .entry))) (length (now (work .entry)))) (opened wall (ofState s) (Play.apply (times t0 t1 t2) (now (coefficients .entry)) (now (input .entry)))) (ofState s)) TailComplete) ⌝ }
-    ensures { λ _. ⌜ now (work .exit) ≡ accept (judgedOpenApply wall (ofState s) (times t0 t1 t2) (now (coefficients .entry)) (now (input .entry)) (length (now (store .entry))) (length (now (work .entry)))) (openWork wall (ofState s) (now (input .entry)) (now (store .entry))) (now (work .entry)) ⌝ }
+    ensures { λ r. ⌜ r ≡ faced (given (opened wall (lend s (now (store .entry)) (now (work .entry))) (Play.apply (times t0 t1 t2) (now (coefficients .entry)) (now (input .entry))))) ⌝ }
+    ensures { λ _. ⌜ now (work .exit) ≡ opened wall (lend s (now (store .entry)) (now (work .entry))) (Play.apply (times t0 t1 t2) (now (coefficients .entry)) (now (input .entry))) .memory .work ⌝ }
 {
     let t = Times {
         low: t0,
@@ -46,8 +37,8 @@ pub extern "C" fn hall_open_apply(
 // Begins a frame after the input has ended, to be done as jobs.
 #[no_mangle]
 pub extern "C" fn hall_open_tail(s: State, store: &[f32], work: &mut [f32]) -> HallAnswer
-    ensures { λ r. ⌜ r ≡ faced (outcome (judgedOpenTail wall (ofState s) (length (now (store .entry))) (length (now (work .entry)))) (accept (judgedOpenTail wall (ofState s) (length (now (store .entry))) (length (now (work .entry)))) (opened wall (ofState s) Play.tail) (ofState s)) TailComplete) ⌝ }
-    ensures { λ _. ⌜ now (work .exit) ≡ accept (judgedOpenTail wall (ofState s) (length (now (store .entry))) (length (now (work .entry)))) (openWork wall (ofState s) (replicate (s .frame) +0) (now (store .entry))) (now (work .entry)) ⌝ }
+    ensures { λ r. ⌜ r ≡ faced (given (opened wall (lend s (now (store .entry)) (now (work .entry))) Play.tail)) ⌝ }
+    ensures { λ _. ⌜ now (work .exit) ≡ opened wall (lend s (now (store .entry)) (now (work .entry))) Play.tail .memory .work ⌝ }
 {
     faced(opening::open_tail(s, store, work))
 }
@@ -60,8 +51,8 @@ pub extern "C" fn hall_job_read(
     store: &[f32],
     work: &mut [f32],
 ) -> HallAnswer
-    ensures { λ r. ⌜ r ≡ faced (outcome (judgedRead wall (ofState s) line (length (now (store .entry))) (length (now (work .entry)))) (accept (judgedRead wall (ofState s) line (length (now (store .entry))) (length (now (work .entry)))) (markedUnit (ofState s) line (s .filters)) (ofState s)) TailComplete) ⌝ }
-    ensures { λ _. ⌜ now (work .exit) ≡ accept (judgedRead wall (ofState s) line (length (now (store .entry))) (length (now (work .entry)))) (readWork wall (ofState s) line (now (store .entry)) (now (work .entry))) (now (work .entry)) ⌝ }
+    ensures { λ r. ⌜ r ≡ faced (given (done wall (lend s (now (store .entry)) (now (work .entry))) (readJob line))) ⌝ }
+    ensures { λ _. ⌜ now (work .exit) ≡ done wall (lend s (now (store .entry)) (now (work .entry))) (readJob line) .memory .work ⌝ }
 {
     faced(jobs::job_read(s, line, store, work))
 }
@@ -69,8 +60,8 @@ pub extern "C" fn hall_job_read(
 // Mixes the lines read.
 #[no_mangle]
 pub extern "C" fn hall_job_mix(s: State, work: &mut [f32]) -> HallAnswer
-    ensures { λ r. ⌜ r ≡ faced (outcome (judgedMix wall (ofState s) (length (now (work .entry)))) (accept (judgedMix wall (ofState s) (length (now (work .entry)))) (markedUnit (ofState s) (mixMark wall) (s .filters)) (ofState s)) TailComplete) ⌝ }
-    ensures { λ _. ⌜ now (work .exit) ≡ accept (judgedMix wall (ofState s) (length (now (work .entry)))) (mixWork wall (ofState s) (now (work .entry))) (now (work .entry)) ⌝ }
+    ensures { λ r. ⌜ r ≡ faced (given (done wall (lend s [] (now (work .entry))) mixJob)) ⌝ }
+    ensures { λ _. ⌜ now (work .exit) ≡ done wall (lend s [] (now (work .entry))) mixJob .memory .work ⌝ }
 {
     faced(jobs::job_mix(s, work))
 }
@@ -78,8 +69,8 @@ pub extern "C" fn hall_job_mix(s: State, work: &mut [f32]) -> HallAnswer
 // Sends a line mixed through its bands, and adds the input to it unless in a tail.
 #[no_mangle]
 pub extern "C" fn hall_job_line(s: State, line: usize, work: &mut [f32]) -> HallAnswer
-    ensures { λ r. ⌜ r ≡ faced (outcome (judgedLine wall (ofState s) line (length (now (work .entry)))) (accept (judgedLine wall (ofState s) line (length (now (work .entry)))) (markedUnit (ofState s) (lineMark wall line) (lineFilters wall (ofState s) line (now (work .entry)))) (ofState s)) TailComplete) ⌝ }
-    ensures { λ _. ⌜ now (work .exit) ≡ accept (judgedLine wall (ofState s) line (length (now (work .entry)))) (lineWork wall (ofState s) line (now (work .entry))) (now (work .entry)) ⌝ }
+    ensures { λ r. ⌜ r ≡ faced (given (done wall (lend s [] (now (work .entry))) (lineJob line))) ⌝ }
+    ensures { λ _. ⌜ now (work .exit) ≡ done wall (lend s [] (now (work .entry))) (lineJob line) .memory .work ⌝ }
 {
     faced(jobs::job_line(s, line, work))
 }
@@ -87,8 +78,8 @@ pub extern "C" fn hall_job_line(s: State, line: usize, work: &mut [f32]) -> Hall
 // Makes the output of the lines read.
 #[no_mangle]
 pub extern "C" fn hall_job_output(s: State, work: &mut [f32]) -> HallAnswer
-    ensures { λ r. ⌜ r ≡ faced (outcome (judgedOutput wall (ofState s) (length (now (work .entry)))) (accept (judgedOutput wall (ofState s) (length (now (work .entry)))) (markedUnit (ofState s) (outputMark wall) (outputFilters wall (ofState s) (now (work .entry)))) (ofState s)) TailComplete) ⌝ }
-    ensures { λ _. ⌜ now (work .exit) ≡ accept (judgedOutput wall (ofState s) (length (now (work .entry)))) (outputWork wall (ofState s) (now (work .entry))) (now (work .entry)) ⌝ }
+    ensures { λ r. ⌜ r ≡ faced (given (done wall (lend s [] (now (work .entry))) outputJob)) ⌝ }
+    ensures { λ _. ⌜ now (work .exit) ≡ done wall (lend s [] (now (work .entry))) outputJob .memory .work ⌝ }
 {
     faced(jobs::job_output(s, work))
 }
@@ -102,10 +93,10 @@ pub extern "C" fn hall_close(
     work: &mut [f32],
     output: &mut [f32],
 ) -> HallAnswer
-    ensures { λ r. ⌜ r ≡ faced (outcome (closeAnswer (judgedClose wall (ofState s) (length (now (store .entry))) (length (now (work .entry))) (length (now (output .entry)))) (ofState s) (rowsOf wall (s .frame) (now (work .entry)))) (closeUnit wall (ofState s) (judgedClose wall (ofState s) (length (now (store .entry))) (length (now (work .entry))) (length (now (output .entry)))) (rowsOf wall (s .frame) (now (work .entry)))) (closeVerdict (ofState s) (judgedClose wall (ofState s) (length (now (store .entry))) (length (now (work .entry))) (length (now (output .entry)))) (rowsOf wall (s .frame) (now (work .entry))))) ⌝ }
-    ensures { λ _. ⌜ now (store .exit) ≡ closeStore wall (ofState s) (judgedClose wall (ofState s) (length (now (store .entry))) (length (now (work .entry))) (length (now (output .entry)))) (rowsOf wall (s .frame) (now (work .entry))) (now (store .entry)) ⌝ }
-    ensures { λ _. ⌜ now (work .exit) ≡ closeWork (judgedClose wall (ofState s) (length (now (store .entry))) (length (now (work .entry))) (length (now (output .entry)))) (now (work .entry)) ⌝ }
-    ensures { λ _. ⌜ now (output .exit) ≡ closeOutput (ofState s) (judgedClose wall (ofState s) (length (now (store .entry))) (length (now (work .entry))) (length (now (output .entry)))) (rowsOf wall (s .frame) (now (work .entry))) (now (output .entry)) ⌝ }
+    ensures { λ r. ⌜ r ≡ faced (given (closed wall (lend s (now (store .entry)) (now (work .entry))) (now (output .entry)))) ⌝ }
+    ensures { λ _. ⌜ now (store .exit) ≡ closed wall (lend s (now (store .entry)) (now (work .entry))) (now (output .entry)) .memory .store ⌝ }
+    ensures { λ _. ⌜ now (work .exit) ≡ closed wall (lend s (now (store .entry)) (now (work .entry))) (now (output .entry)) .memory .work ⌝ }
+    ensures { λ _. ⌜ now (output .exit) ≡ closed wall (lend s (now (store .entry)) (now (work .entry))) (now (output .entry)) .output ⌝ }
 {
     faced(closing::close(s, store, work, output))
 }
@@ -113,8 +104,8 @@ pub extern "C" fn hall_close(
 // Gives an open frame up: the unit is as it was before, and the work memory is cleared.
 #[no_mangle]
 pub extern "C" fn hall_abandon(s: State, work: &mut [f32]) -> HallAnswer
-    ensures { λ r. ⌜ r ≡ faced (outcome (judgedAbandon wall (ofState s) (length (now (work .entry)))) (accept (judgedAbandon wall (ofState s) (length (now (work .entry)))) (shut wall (ofState s)) (ofState s)) TailComplete) ⌝ }
-    ensures { λ _. ⌜ now (work .exit) ≡ accept (judgedAbandon wall (ofState s) (length (now (work .entry)))) (cleared (now (work .entry))) (now (work .entry)) ⌝ }
+    ensures { λ r. ⌜ r ≡ faced (given (abandoned wall (lend s [] (now (work .entry))))) ⌝ }
+    ensures { λ _. ⌜ now (work .exit) ≡ abandoned wall (lend s [] (now (work .entry))) .memory .work ⌝ }
 {
     faced(closing::abandon(s, work))
 }

@@ -4,32 +4,29 @@ use crate::answers::faced;
 use bands::Times;
 use unit::State;
 ghost use mathlib.Core.Path.{_≡_};
-ghost use lib.ListN.{length};
-ghost use Rattle.audio_buffer.specs.declared.AudioEffectState.the-variants.{TailComplete};
-ghost use Rattle.unit.specs.Hall.{ofState};
+ghost use mathlib.Core.List.{[]};
 ghost use Rattle.unit.specs.Model.{wall};
-ghost use Rattle.judges.specs.Judges.{judgedFresh, judgedReset, judgedTail, judgedApply};
-ghost use Rattle.frame.specs.Settle.{fallen};
-ghost use Rattle.silence.specs.Silence.{outcome, freshUnit, freshStore, resetUnit, resetStore};
-ghost use Rattle.reverb.specs.Whole.{applyFrame, applyCount, tailFrame, wholeOutcome, wholeStore, wholeWork, wholeOutput};
+ghost use Rattle.machine.specs.Ending.{lend, given};
+ghost use Rattle.machine.specs.Whole as Play;
+ghost use Rattle.machine.specs.Whole.{begun, silenced, atOnce};
 ghost use Rattle.hall.specs.Face.{faced, times};
 
 // A unit in which nothing has sounded yet, and its store cleared.
 #[no_mangle]
 pub extern "C" fn hall_fresh(rate: u32, frame: usize, store: &mut [f32]) -> HallAnswer
-    ensures { λ r. ⌜ r ≡ faced (outcome (judgedFresh wall rate frame (length (now (store .entry)))) (freshUnit wall rate frame (length (now (store .entry)))) TailComplete) ⌝ }
-    ensures { λ _. ⌜ now (store .exit) ≡ freshStore wall rate frame (now (store .entry)) ⌝ }
+    ensures { λ r. ⌜ r ≡ faced (given (begun wall rate frame (now (store .entry)))) ⌝ }
+    ensures { λ _. ⌜ now (store .exit) ≡ begun wall rate frame (now (store .entry)) .memory .store ⌝ }
 {
-    faced(silence::fresh(rate, frame, store))
+    faced(reverb::fresh(rate, frame, store))
 }
 
 // Silences the unit: its store is cleared and no tail is left. Cursors and filters stay.
 #[no_mangle]
 pub extern "C" fn hall_reset(s: State, store: &mut [f32]) -> HallAnswer
-    ensures { λ r. ⌜ r ≡ faced (outcome (judgedReset wall (ofState s) (length (now (store .entry)))) (resetUnit wall (ofState s) (length (now (store .entry)))) TailComplete) ⌝ }
-    ensures { λ _. ⌜ now (store .exit) ≡ resetStore wall (ofState s) (now (store .entry)) ⌝ }
+    ensures { λ r. ⌜ r ≡ faced (given (silenced wall (lend s (now (store .entry)) []))) ⌝ }
+    ensures { λ _. ⌜ now (store .exit) ≡ silenced wall (lend s (now (store .entry)) []) .memory .store ⌝ }
 {
-    faced(silence::reset(s, store))
+    faced(reverb::reset(s, store))
 }
 
 // A frame of input: the lines sound through filters of the given coefficients, the input is added to
@@ -46,10 +43,10 @@ pub extern "C" fn hall_apply(
     work: &mut [f32],
     output: &mut [f32],
 ) -> HallAnswer
-    ensures { λ r. ⌜ r ≡ faced (wholeOutcome wall (ofState s) (judgedApply wall (ofState s) (times t0 t1 t2) (now (coefficients .entry)) (now (input .entry)) (length (now (store .entry))) (length (now (work .entry))) (length (now (output .entry)))) (applyFrame wall (ofState s) (now (coefficients .entry)) (now (input .entry)) (now (store .entry))) (applyCount (ofState s) (times t0 t1 t2))) ⌝ }
-    ensures { λ _. ⌜ now (store .exit) ≡ wholeStore wall (ofState s) (judgedApply wall (ofState s) (times t0 t1 t2) (now (coefficients .entry)) (now (input .entry)) (length (now (store .entry))) (length (now (work .entry))) (length (now (output .entry)))) (applyFrame wall (ofState s) (now (coefficients .entry)) (now (input .entry)) (now (store .entry))) (now (store .entry)) ⌝ }
-    ensures { λ _. ⌜ now (work .exit) ≡ wholeWork (judgedApply wall (ofState s) (times t0 t1 t2) (now (coefficients .entry)) (now (input .entry)) (length (now (store .entry))) (length (now (work .entry))) (length (now (output .entry)))) (now (work .entry)) ⌝ }
-    ensures { λ _. ⌜ now (output .exit) ≡ wholeOutput (judgedApply wall (ofState s) (times t0 t1 t2) (now (coefficients .entry)) (now (input .entry)) (length (now (store .entry))) (length (now (work .entry))) (length (now (output .entry)))) (applyFrame wall (ofState s) (now (coefficients .entry)) (now (input .entry)) (now (store .entry))) (now (output .entry)) ⌝ }
+    ensures { λ r. ⌜ r ≡ faced (given (atOnce wall (lend s (now (store .entry)) (now (work .entry))) (Play.apply (times t0 t1 t2) (now (coefficients .entry)) (now (input .entry))) (now (output .entry)))) ⌝ }
+    ensures { λ _. ⌜ now (store .exit) ≡ atOnce wall (lend s (now (store .entry)) (now (work .entry))) (Play.apply (times t0 t1 t2) (now (coefficients .entry)) (now (input .entry))) (now (output .entry)) .memory .store ⌝ }
+    ensures { λ _. ⌜ now (work .exit) ≡ atOnce wall (lend s (now (store .entry)) (now (work .entry))) (Play.apply (times t0 t1 t2) (now (coefficients .entry)) (now (input .entry))) (now (output .entry)) .memory .work ⌝ }
+    ensures { λ _. ⌜ now (output .exit) ≡ atOnce wall (lend s (now (store .entry)) (now (work .entry))) (Play.apply (times t0 t1 t2) (now (coefficients .entry)) (now (input .entry))) (now (output .entry)) .output ⌝ }
 {
     let t = Times {
         low: t0,
@@ -68,10 +65,10 @@ pub extern "C" fn hall_tail(
     work: &mut [f32],
     output: &mut [f32],
 ) -> HallAnswer
-    ensures { λ r. ⌜ r ≡ faced (wholeOutcome wall (ofState s) (judgedTail wall (ofState s) (length (now (store .entry))) (length (now (work .entry))) (length (now (output .entry)))) (tailFrame wall (ofState s) (now (store .entry))) (fallen (s .count .0))) ⌝ }
-    ensures { λ _. ⌜ now (store .exit) ≡ wholeStore wall (ofState s) (judgedTail wall (ofState s) (length (now (store .entry))) (length (now (work .entry))) (length (now (output .entry)))) (tailFrame wall (ofState s) (now (store .entry))) (now (store .entry)) ⌝ }
-    ensures { λ _. ⌜ now (work .exit) ≡ wholeWork (judgedTail wall (ofState s) (length (now (store .entry))) (length (now (work .entry))) (length (now (output .entry)))) (now (work .entry)) ⌝ }
-    ensures { λ _. ⌜ now (output .exit) ≡ wholeOutput (judgedTail wall (ofState s) (length (now (store .entry))) (length (now (work .entry))) (length (now (output .entry)))) (tailFrame wall (ofState s) (now (store .entry))) (now (output .entry)) ⌝ }
+    ensures { λ r. ⌜ r ≡ faced (given (atOnce wall (lend s (now (store .entry)) (now (work .entry))) Play.tail (now (output .entry)))) ⌝ }
+    ensures { λ _. ⌜ now (store .exit) ≡ atOnce wall (lend s (now (store .entry)) (now (work .entry))) Play.tail (now (output .entry)) .memory .store ⌝ }
+    ensures { λ _. ⌜ now (work .exit) ≡ atOnce wall (lend s (now (store .entry)) (now (work .entry))) Play.tail (now (output .entry)) .memory .work ⌝ }
+    ensures { λ _. ⌜ now (output .exit) ≡ atOnce wall (lend s (now (store .entry)) (now (work .entry))) Play.tail (now (output .entry)) .output ⌝ }
 {
     faced(reverb::tail(s, store, work, output))
 }

@@ -19,24 +19,26 @@ use Rattle.hadamard.specs.Rows.{judgedRows, rowsMixed, mixedRows}
 use Rattle.hadamard.proofs.Laws.{rows-accepted, rows-joined}
 use Rattle.delay.specs.Calls.{both}
 use Rattle.iir.specs.declared.Filter.{Filter}
-use Rattle.unit.specs.Hall.{Hall}
+use Rattle.unit.specs.UnitState.{UnitState}
 use Rattle.unit.specs.Model.{wall}
-use Rattle.unit.specs.Sizes.{storeLen}
-use Rattle.unit.specs.Range.{inRange, linesOk}
+use Rattle.unit.specs.Sizes.{lengths, storeLen}
+use Rattle.unit.specs.Range.{inRange, cursorsIn}
+use Rattle.unit.specs.Room.{ringsHold}
+use Rattle.unit.proofs.Ranges.{lengths-long}
 use Rattle.judges.specs.Judges.{judged, workOk}
 use Rattle.rows.specs.Rows.{rowsOf, joined}
 use Rattle.rows.specs.Fits.{workFor, WorkFits}
 use Rattle.rows.specs.Parts.{lineLaid, lineEnds}
 use Rattle.rows.proofs.RowsOf.{all-rows}
 use Rattle.outputs.specs.Parts.{outputLaid, outputEnds}
-use Rattle.reads.specs.Reads.{readLaid}
-use Rattle.reads.proofs.ReadLaid.{read-given}
+use Rattle.rows.specs.Reads.{readLaid}
+use Rattle.rows.proofs.ReadLaid.{read-given}
 use Rattle.judges.proofs.Fits.{Due}
-use Rattle.jobs.specs.Steps.{readWork, mixLaid, lineWork, lineFilters, outputWork, outputFilters}
+use Rattle.machine.specs.Jobs.{readWork, mixLaid}
 
 -- an accepted job's work memory is one of its unit's frames
-pub work-for : (u : Hall) (work : ℕ) → Due u (workOk wall u work) → workFor wall (u .frame) work ≡ true
-work-for u work d = join-and (split-and (rateOk (u .rate)) (frameOk (u .frame)) (d .sizes) .1) (d .lent)
+pub work-for : (u : UnitState) (work : ℕ) → Due u (workOk wall u work) → workFor wall (u .settings .frame) work ≡ true
+work-for u work d = join-and (split-and (rateOk (u .settings .rate)) (frameOk (u .settings .frame)) (d .sizes) .1) (d .lent)
 
 module _ (f : ℕ) (w : List Float) (h : WorkFits wall f (length w)) where
   abbrev k : ℕ
@@ -73,31 +75,36 @@ module _ (f : ℕ) (w : List Float) (h : WorkFits wall f (length w)) where
 
 -- ---- a job that was let by found room
 
-module _ (u : Hall) (work : List Float) (room : Bool) (e : room ≡ true) where
-  pub output-work : (work′ : List Float) → work′ ≡ outputLaid wall (u .frame) (u .passes) (u .filters) room work → work′ ≡ outputWork wall u work
+module _ (u : UnitState) (work : List Float) (room : Bool) (e : room ≡ true) where
+  pub output-work : (work′ : List Float) → work′ ≡ outputLaid wall (u .settings .frame) (u .cursors .passes) (u .filters) room work
+      → work′ ≡ outputLaid wall (u .settings .frame) (u .cursors .passes) (u .filters) true work
   output-work work′ q = q ∙ rw e refl
 
-  pub output-ends : (gs : List Filter) → gs ≡ outputEnds wall (u .frame) (u .passes) (u .filters) room work → gs ≡ outputFilters wall u work
+  pub output-ends : (gs : List Filter) → gs ≡ outputEnds wall (u .settings .frame) (u .cursors .passes) (u .filters) room work
+      → gs ≡ outputEnds wall (u .settings .frame) (u .cursors .passes) (u .filters) true work
   output-ends gs q = q ∙ rw e refl
 
   module _ (i : ℕ) where
-    pub line-work : (work′ : List Float) → work′ ≡ lineLaid wall (u .frame) i (u .tail) (u .filters) room work → work′ ≡ lineWork wall u i work
+    pub line-work : (work′ : List Float) → work′ ≡ lineLaid wall (u .settings .frame) i (u .held .tail) (u .filters) room work
+        → work′ ≡ lineLaid wall (u .settings .frame) i (u .held .tail) (u .filters) true work
     line-work work′ q = q ∙ rw e refl
 
-    pub line-ends : (gs : List Filter) → gs ≡ lineEnds wall (u .frame) i (u .filters) room work → gs ≡ lineFilters wall u i work
+    pub line-ends : (gs : List Filter) → gs ≡ lineEnds wall (u .settings .frame) i (u .filters) room work
+        → gs ≡ lineEnds wall (u .settings .frame) i (u .filters) true work
     line-ends gs q = q ∙ rw e refl
 
     -- the ring of line i gives a whole row
-    pub read-work : (store work′ : List Float) → i < 16 → length store ≡ storeLen wall (u .frame) → WorkFits wall (u .frame) (length work)
-        → linesOk wall (u .frame) (u .lines) ≡ true
-        → work′ ≡ readLaid wall (u .frame) i (getD (u .lines) i (both 0)) room store work → work′ ≡ readWork wall u i store work
+    pub read-work : (store work′ : List Float) → i < 16 → ringsHold (u .settings .frame) (lengths wall u) ≡ true → length store ≡ storeLen wall (lengths wall u)
+        → WorkFits wall (u .settings .frame) (length work) → cursorsIn (lengths wall u) (u .cursors .lines) ≡ true
+        → work′ ≡ readLaid wall (u .settings .frame) (lengths wall u) i (getD (u .cursors .lines) i (both 0)) room store work → work′ ≡ readWork wall u i store work
     unfolding readLaid readWork
-    read-work store work′ h ls fits all q = q ∙ rw (e, read-given (u .frame) i store work h ls fits (u .lines) all) refl
+    read-work store work′ h hold long fits all q =
+        q ∙ rw (e, read-given (u .settings .frame) (lengths wall u) i store work h (lengths-long wall (u .settings .frame) 16 0) hold long fits (u .cursors .lines) all) refl
 
 -- a job is let by for a line of the unit's alone
-pub line-of : (u : Hall) (lengths line turn : Bool) → judged wall u lengths line turn ≡ Accepted → line ≡ true
+pub line-of : (u : UnitState) (lent line turn : Bool) → judged wall u lent line turn ≡ Accepted → line ≡ true
 unfolding judged
-line-of u lengths line turn e =
-    let p = needed (inRange wall u) BadState (need lengths BadLength (need line BadIndex (need turn OutOfTurn Accepted))) refl e in
-    let q = needed lengths BadLength (need line BadIndex (need turn OutOfTurn Accepted)) refl (p .1) in
+line-of u lent line turn e =
+    let p = needed (inRange wall u) BadState (need lent BadLength (need line BadIndex (need turn OutOfTurn Accepted))) refl e in
+    let q = needed lent BadLength (need line BadIndex (need turn OutOfTurn Accepted)) refl (p .1) in
     needed line BadIndex (need turn OutOfTurn Accepted) refl (q .1) .0

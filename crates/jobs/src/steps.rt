@@ -4,15 +4,15 @@ use unit::State;
 ghost use mathlib.Core.Path.{_≡_};
 ghost use Prim.Native.Nat.{_<_};
 ghost use lib.ListN.{length};
-ghost use Rattle.unit.specs.Hall.{ofState, toState};
+ghost use Rattle.unit.specs.UnitState.{ofState, toState};
 ghost use Rattle.unit.specs.Model.{wall};
 ghost use Rattle.rows.specs.Fits.{WorkFits};
-ghost use Rattle.jobs.specs.Steps.{markedUnit, mixLaid};
+ghost use Rattle.machine.specs.Jobs.{unitMarked, mixLaid};
 
 // The unit with the job of mark k done, and its filters then.
 pub(crate) fn marked(s: State, k: usize, filters: [Filter; 51]) -> State
     requires { ⌜ k < 34 ⌝ }
-    ensures { λ r. ⌜ r ≡ toState (markedUnit (ofState s) k filters) ⌝ }
+    ensures { λ r. ⌜ r ≡ toState (unitMarked (ofState s) k filters) ⌝ }
 {
     let mut t = s;
     t.marks[k] = true;

@@ -14,33 +14,33 @@ use Rattle.search.specs.Search.{firstBad, allFinite}
 use Rattle.samples.specs.Sizes.{rateOk, frameOk}
 use Rattle.bands.specs.declared.Times.{Times}
 use Rattle.bands.specs.Times.{timesOk}
-use Rattle.unit.specs.Hall.{Hall}
+use Rattle.unit.specs.UnitState.{UnitState}
 use Rattle.unit.specs.Model.{Model}
-use Rattle.unit.specs.Sizes.{storeLen, workLen, coefficientsLen}
+use Rattle.unit.specs.Sizes.{lengthsOf, lengths, storeLen, workLen, coefficientsLen}
 use Rattle.unit.specs.Range.{inRange}
 
 -- fresh: 2, then 3
 unfoldable pub judgedFresh : Model → ℕ → ℕ → ℕ → Answer
-judgedFresh m rate frame store = need (rateOk rate && frameOk frame) BadSize (need (eqb store (storeLen m frame)) BadLength Accepted)
+judgedFresh m rate frame store = need (rateOk rate && frameOk frame) BadSize (need (eqb store (storeLen m (lengthsOf m frame))) BadLength Accepted)
 
 -- any other call of the unit: 1, then 3 unless every lent slice has its length, 4 unless its line is one, and 5 unless it is its turn
-unfoldable pub judged : Model → Hall → Bool → Bool → Bool → Answer
-judged m u lengths line turn =
-    need (inRange m u) BadState (need lengths BadLength (need line BadIndex (need turn OutOfTurn Accepted)))
+unfoldable pub judged : Model → UnitState → Bool → Bool → Bool → Answer
+judged m u lent line turn =
+    need (inRange m u) BadState (need lent BadLength (need line BadIndex (need turn OutOfTurn Accepted)))
 
-abbrev pub storeOk : Model → Hall → ℕ → Bool
-storeOk m u store = eqb store (storeLen m (u .frame))
+abbrev pub storeOk : Model → UnitState → ℕ → Bool
+storeOk m u store = eqb store (storeLen m (lengths m u))
 
-abbrev pub workOk : Model → Hall → ℕ → Bool
-workOk m u work = eqb work (workLen m (u .frame))
+abbrev pub workOk : Model → UnitState → ℕ → Bool
+workOk m u work = eqb work (workLen m (u .settings .frame))
 
 -- what a whole call and a close are lent: store, work and output
-abbrev pub lentOk : Model → Hall → ℕ → ℕ → ℕ → Bool
-lentOk m u store work output = storeOk m u store && (workOk m u work && eqb output (u .frame))
+abbrev pub lentOk : Model → UnitState → ℕ → ℕ → ℕ → Bool
+lentOk m u store work output = storeOk m u store && (workOk m u work && eqb output (u .settings .frame))
 
 -- what an apply is given: coefficients and input
-abbrev pub givenOk : Model → Hall → ℕ → ℕ → Bool
-givenOk m u coefficients input = eqb coefficients (coefficientsLen m) && eqb input (u .frame)
+abbrev pub givenOk : Model → UnitState → ℕ → ℕ → Bool
+givenOk m u coefficients input = eqb coefficients (coefficientsLen m) && eqb input (u .settings .frame)
 
 -- "8: an input sample isn't finite .. with the index of the first one"
 abbrev pub badInput : Found → Answer
@@ -53,17 +53,17 @@ judgedGiven t coefficients input =
     need (timesOk t) BadTime (need (allFinite coefficients) BadCoefficient (badInput (firstBad input)))
 
 -- reset: 1 3 5
-abbrev pub judgedReset : Model → Hall → ℕ → Answer
-judgedReset m u store = judged m u (storeOk m u store) true (not (u .busy))
+abbrev pub judgedReset : Model → UnitState → ℕ → Answer
+judgedReset m u store = judged m u (storeOk m u store) true (not (u .held .busy))
 
 -- a whole tail: 1 3 5
-abbrev pub judgedTail : Model → Hall → ℕ → ℕ → ℕ → Answer
+abbrev pub judgedTail : Model → UnitState → ℕ → ℕ → ℕ → Answer
 judgedTail m u store work output =
-    judged m u (lentOk m u store work output) true (not (u .busy))
+    judged m u (lentOk m u store work output) true (not (u .held .busy))
 
 -- a whole apply: 1 3 5 6 7 8
-abbrev pub judgedApply : Model → Hall → Times → List Float → List Float → ℕ → ℕ → ℕ → Answer
+abbrev pub judgedApply : Model → UnitState → Times → List Float → List Float → ℕ → ℕ → ℕ → Answer
 judgedApply m u t coefficients input store work output =
     orElse
-    (judged m u (givenOk m u (length coefficients) (length input) && lentOk m u store work output) true (not (u .busy)))
+    (judged m u (givenOk m u (length coefficients) (length input) && lentOk m u store work output) true (not (u .held .busy)))
     (judgedGiven t coefficients input)

@@ -1,1 +1,3 @@
 pub mod Judges
+pub mod Marks
+pub mod Turns

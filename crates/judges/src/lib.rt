@@ -1,6 +1,10 @@
-// What is due of a whole call: the lowest number that applies.
+// What is due of a call of the unit: the lowest number that applies, 9 aside.
 //
-// Its contracts cite `specs/`, over any model of the unit.
+// Its contracts cite `specs/`, over any model of the unit: what each call is judged by, where the marks of
+// an open frame stand, and what each of its jobs waits for.
+mod marks;
+mod turns;
+
 use bands::Times;
 use bands::times_ok;
 use samples::Answer;
@@ -12,26 +16,34 @@ use samples::rate_ok;
 use search::Found;
 use search::all_finite;
 use search::first_bad;
+pub use turns::judge_abandon;
+pub use turns::judge_close;
+pub use turns::judge_line;
+pub use turns::judge_mix;
+pub use turns::judge_open_apply;
+pub use turns::judge_open_tail;
+pub use turns::judge_output;
+pub use turns::judge_read;
 use unit::State;
 use unit::in_range;
 use unit::lent_ok;
 use unit::store_ok;
 ghost use mathlib.Core.Path.{_≡_};
 ghost use Rattle.samples.specs.Answers.{orElse};
-ghost use Rattle.unit.specs.Hall.{ofState};
+ghost use Rattle.unit.specs.UnitState.{ofState};
 ghost use Rattle.unit.specs.Model.{wall};
 ghost use Rattle.judges.specs.Judges.{judged, judgedFresh, judgedReset, judgedTail, judgedApply, judgedGiven, badInput};
 
-// A call on a state: `lengths` says that every lent slice has its length, `line` that the line is
+// A call on a state: `lent` says that every lent slice has its length, `line` that the line is
 // one of the unit's, and `turn` that it is the call's turn.
-pub fn judge(s: State, lengths: bool, line: bool, turn: bool) -> Answer
-    ensures { λ r. ⌜ r ≡ judged wall (ofState s) lengths line turn ⌝ }
+pub(crate) fn judge(s: State, lent: bool, line: bool, turn: bool) -> Answer
+    ensures { λ r. ⌜ r ≡ judged wall (ofState s) lent line turn ⌝ }
 {
     need(
         in_range(s),
         Answer::BadState,
         need(
-            lengths,
+            lent,
             Answer::BadLength,
             need(
                 line,
@@ -86,15 +98,15 @@ pub fn judge_apply(
     let frame = s.frame;
     let busy = s.busy;
     let given = and(coefficients.len() == 255, input.len() == frame);
-    let lengths = and(given, lent_ok(frame, store, work, output));
+    let lent = and(given, lent_ok(frame, store, work, output));
     or_else(
-        judge(s, lengths, true, !busy),
+        judge(s, lent, true, !busy),
         judge_given(t, coefficients, input),
     )
 }
 
 // What an apply is given: its times, its coefficients and its input.
-pub fn judge_given(t: Times, coefficients: &[f32], input: &[f32]) -> Answer
+pub(crate) fn judge_given(t: Times, coefficients: &[f32], input: &[f32]) -> Answer
     ensures { λ r. ⌜ r ≡ judgedGiven t (now (coefficients .entry)) (now (input .entry)) ⌝ }
 {
     need(
@@ -119,7 +131,7 @@ fn bad_input(f: Found) -> Answer
 }
 
 // A refusal, or what a later judgement says.
-pub fn or_else(a: Answer, b: Answer) -> Answer
+pub(crate) fn or_else(a: Answer, b: Answer) -> Answer
     ensures { λ r. ⌜ r ≡ orElse a b ⌝ }
 {
     if is_accepted(a) { b } else { a }

@@ -13,29 +13,30 @@ use Rattle.samples.specs.Binary32.{+0}
 use Rattle.samples.specs.Sizes.{rateOk, frameOk}
 use Rattle.samples.proofs.Laws.{split-and, join-and}
 use Rattle.samples.proofs.Turns.{middle}
-use Rattle.unit.specs.Hall.{Hall}
+use Rattle.unit.specs.UnitState.{UnitState}
 use Rattle.unit.specs.Model.{wall}
-use Rattle.unit.specs.Sizes.{lineLengths, total, storeLen}
+use Rattle.unit.specs.Sizes.{lengthsOf, total, storeLen}
 use Rattle.judges.specs.Judges.{storeOk, workOk}
-use Rattle.frame.specs.Steps.{copied}
-use Rattle.frame.proofs.RowLaws.{copied-all}
+use Rattle.stages.specs.Steps.{copied}
+use Rattle.stages.proofs.RowLaws.{copied-all}
 use Rattle.rows.specs.Fits.{WorkFits}
 use Rattle.rows.specs.Rows.{joined}
-use Rattle.lines.proofs.RowJoins.{copy-join}
+use Rattle.frame.proofs.RowJoins.{copy-join}
 use Rattle.rows.proofs.RowsOf.{work-fits}
 use Rattle.judges.proofs.Fits.{Due}
-use Rattle.opening.specs.Play.{openLaid}
+use Rattle.stages.specs.Frame.{passesIn}
+use Rattle.machine.specs.Jobs.{openLaid}
 
 -- an accepted open is lent a store and a work memory of its unit's frames
 pub record OpenFits (f store work : ℕ) : Type 0 where
   pub fits : WorkFits wall f work
-  pub rings : store ≡ storeLen wall f
+  pub rings : store ≡ storeLen wall (lengthsOf wall f)
 
-pub open-fits : (u : Hall) (store work : ℕ) → Due u (storeOk wall u store && workOk wall u work) → OpenFits (u .frame) store work
+pub open-fits : (u : UnitState) (store work : ℕ) → Due u (storeOk wall u store && workOk wall u work) → OpenFits (u .settings .frame) store work
 open-fits u store work d =
     let l = split-and (storeOk wall u store) (workOk wall u work) (d .lent) in
-    let frame = split-and (rateOk (u .rate)) (frameOk (u .frame)) (d .sizes) .1 in
-    record { fits = work-fits (u .frame) work (join-and frame (l .1)); rings = eqb-true _ _ (l .0) }
+    let frame = split-and (rateOk (u .settings .rate)) (frameOk (u .settings .frame)) (d .sizes) .1 in
+    record { fits = work-fits (u .settings .frame) work (join-and frame (l .1)); rings = eqb-true _ _ (l .0) }
 
 -- 34 rows of +0, by their kinds
 rows-of-zeros : (f : ℕ) (rings : List Float)
@@ -56,19 +57,19 @@ rows-of-zeros f rings =
     ∙ ap (λ (l : List Float). replicate (16 * f) +0 ++ l) (append-assoc (replicate (16 * f) +0) (replicate f +0) rings))
 
 -- the parts of a store
-pub lines-before : (f store : ℕ) → store ≡ storeLen wall f → total (lineLengths wall f) + total (wall .passes) ≡ store
+pub lines-before : (f store : ℕ) → store ≡ storeLen wall (lengthsOf wall f) → total (lengthsOf wall f) + total (wall .passes) ≡ store
 unfolding storeLen
 lines-before f store e = sym e
 
 -- the rings copied to the end of a work memory that is all +0
-pub begin-laid : (f : ℕ) (store w x : List Float) (n : ℕ) → WorkFits wall f n → length store ≡ storeLen wall f → w ≡ replicate n +0
+pub begin-laid : (f : ℕ) (store w x : List Float) (n : ℕ) → WorkFits wall f n → length store ≡ storeLen wall (lengthsOf wall f) → w ≡ replicate n +0
     → let b = 34 * f in
     let a = length store - (length w - b) in
     x ≡ copied (take (length store - a) (drop a store)) (take (length w - b) (drop b w))
-    → putMid b (length w - b) w x ≡ openLaid wall f (replicate f +0) store
+    → putMid b (length w - b) w x ≡ openLaid wall f (replicate f +0) (passesIn (lengthsOf wall f) store)
 unfolding openLaid joined
 begin-laid f store w x n h e z ex =
-    let t = total (lineLengths wall f) in
+    let t = total (lengthsOf wall f) in
     let rings = total (wall .passes) in
     let parts = lines-before f (length store) e in
     let long : length w ≡ n = ap length z ∙ length-replicate n +0 in
@@ -82,16 +83,16 @@ begin-laid f store w x n h e z ex =
     ∙ rows-of-zeros f (drop t store)
 
 -- the input copied to its front
-module _ (f : ℕ) (store : List Float) where
+module _ (f : ℕ) (rings : List Float) where
   abbrev rest : List Float
-  rest = replicate (16 * f) +0 ++ (replicate (16 * f) +0 ++ (replicate f +0 ++ drop (total (lineLengths wall f)) store))
+  rest = replicate (16 * f) +0 ++ (replicate (16 * f) +0 ++ (replicate f +0 ++ rings))
 
-  pub open-long : f ≤ length (openLaid wall f (replicate f +0) store)
+  pub open-long : f ≤ length (openLaid wall f (replicate f +0) rings)
   unfolding openLaid joined
   open-long = rw (length-append (replicate f +0) rest, length-replicate f +0) (omega arith)
 
-  pub input-laid : (input x : List Float) → length input ≡ f → x ≡ copied input (take (f - 0) (drop 0 (openLaid wall f (replicate f +0) store)))
-      → putMid 0 (f - 0) (openLaid wall f (replicate f +0) store) x ≡ openLaid wall f input store
+  pub input-laid : (input x : List Float) → length input ≡ f → x ≡ copied input (take (f - 0) (drop 0 (openLaid wall f (replicate f +0) rings)))
+      → putMid 0 (f - 0) (openLaid wall f (replicate f +0) rings) x ≡ openLaid wall f input rings
   unfolding openLaid joined
   input-laid input x l e =
       let k : f ≡ f - 0 = omega arith in
@@ -99,6 +100,6 @@ module _ (f : ℕ) (store : List Float) where
       let new : x ≡ input = e ∙ ap (copied input) (m .0) ∙ copied-all input (replicate f +0) (l ∙ sym (length-replicate f +0)) in
       m .1 x ∙ ap (λ (y : List Float). y ++ rest) new
 
-  pub laid-after : (input w x : List Float) → length input ≡ f → w ≡ openLaid wall f (replicate f +0) store → x ≡ copied input (take (f - 0) (drop 0 w))
-      → putMid 0 (f - 0) w x ≡ openLaid wall f input store
+  pub laid-after : (input w x : List Float) → length input ≡ f → w ≡ openLaid wall f (replicate f +0) rings → x ≡ copied input (take (f - 0) (drop 0 w))
+      → putMid 0 (f - 0) w x ≡ openLaid wall f input rings
   laid-after input w x l z e = rw z (input-laid input x l (rw z at e))

@@ -4,19 +4,17 @@ use samples::Frames;
 use samples::clear;
 use unit::State;
 ghost use mathlib.Core.Path.{_≡_};
-ghost use mathlib.Core.Bool.{true, false};
-ghost use lib.ListN.{length, replicate};
-ghost use Rattle.samples.specs.Binary32.{+0};
-ghost use Rattle.unit.specs.Hall.{ofState, toState};
+ghost use lib.ListN.{length};
+ghost use Rattle.unit.specs.UnitState.{ofState, toState};
 ghost use Rattle.unit.specs.Model.{wall};
-ghost use Rattle.unit.specs.Sizes.{storeLen};
+ghost use Rattle.unit.specs.Sizes.{lengthsOf, storeLen};
 ghost use Rattle.rows.specs.Fits.{WorkFits};
-ghost use Rattle.turns.specs.Held.{holding};
-ghost use Rattle.opening.specs.Play.{openLaid};
+ghost use Rattle.machine.specs.Jobs.{unitOpen};
+ghost use Rattle.opening.specs.Workers.{silentLaid};
 
 // The unit with a frame open: its kind, the filters that it begins with and the count to be set.
 pub(crate) fn opened(s: State, tail: bool, filters: [Filter; 51], next: Frames) -> State
-    ensures { λ r. ⌜ r ≡ toState (holding (ofState s) filters true tail (replicate 34 false) (next .0) (s .filters)) ⌝ }
+    ensures { λ r. ⌜ r ≡ toState (unitOpen wall (ofState s) tail filters (next .0)) ⌝ }
 {
     let before = s.filters;
     let mut t = s;
@@ -32,11 +30,11 @@ pub(crate) fn opened(s: State, tail: bool, filters: [Filter; 51], next: Frames) 
 // Sets every float of the work memory for a frame: the allpass rings as they are in the store, and
 // else +0.
 pub(crate) fn begin_work(f: usize, store: &[f32], work: &mut [f32])
-    requires { ⌜ WorkFits wall f (length (now work)) × (length (now store) ≡ storeLen wall f) ⌝ }
-    ensures { λ _. ⌜ now (work .exit) ≡ openLaid wall f (replicate f +0) (now (store .entry)) ⌝ }
+    requires { ⌜ WorkFits wall f (length (now work)) × (length (now store) ≡ storeLen wall (lengthsOf wall f)) ⌝ }
+    ensures { λ _. ⌜ now (work .exit) ≡ silentLaid f (now (store .entry)) ⌝ }
 {
     clear(work);
     let b = 34 * f;
     let a = store.len() - (work.len() - b);
-    frame::copy(&store[a..], &mut work[b..]);
+    stages::copy(&store[a..], &mut work[b..]);
 }

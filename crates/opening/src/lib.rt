@@ -1,32 +1,25 @@
 // A frame opened, to be done as jobs.
 //
-// Its contracts cite `specs/`: which frame is opened, and what an open leaves of the state and of the work
-// memory.
+// Its contracts cite the machine: how an open ends.
 mod begin;
 
 use crate::begin::begin_work;
 use crate::begin::opened;
 use bands::Times;
+use bands::fallen;
 use bands::tail_count;
-use filters::filters_of;
+use judges::judge_open_apply;
+use judges::judge_open_tail;
+use reverb::filters_of;
 use samples::is_accepted;
-use silence::Outcome;
-use silence::fallen;
-use silence::quiet;
-use turns::judge_open_apply;
-use turns::judge_open_tail;
+use unit::Outcome;
 use unit::State;
+use unit::quiet;
 ghost use mathlib.Core.Path.{_≡_};
-ghost use lib.ListN.{length, replicate};
-ghost use Rattle.samples.specs.Answers.{accept};
-ghost use Rattle.samples.specs.Binary32.{+0};
-ghost use Rattle.audio_buffer.specs.declared.AudioEffectState.the-variants.{TailComplete};
-ghost use Rattle.unit.specs.Hall.{ofState};
 ghost use Rattle.unit.specs.Model.{wall};
-ghost use Rattle.turns.specs.Turns.{judgedOpenApply, judgedOpenTail};
-ghost use Rattle.silence.specs.Silence.{outcome};
-ghost use Rattle.opening.specs.Play as Play;
-ghost use Rattle.opening.specs.Play.{opened, openWork};
+ghost use Rattle.machine.specs.Ending.{lend, given};
+ghost use Rattle.machine.specs.Whole as Play;
+ghost use Rattle.machine.specs.Jobs.{opened};
 
 // Begins a frame of input, to be done as jobs.
 pub fn open_apply(
@@ -37,8 +30,8 @@ pub fn open_apply(
     store: &[f32],
     work: &mut [f32],
 ) -> Outcome
-    ensures { λ r. ⌜ r ≡ outcome (judgedOpenApply wall (ofState s) t (now (coefficients .entry)) (now (input .entry)) (length (now (store .entry))) (length (now (work .entry)))) (accept (judgedOpenApply wall (ofState s) t (now (coefficients .entry)) (now (input .entry)) (length (now (store .entry))) (length (now (work .entry)))) (opened wall (ofState s) (Play.apply t (now (coefficients .entry)) (now (input .entry)))) (ofState s)) TailComplete ⌝ }
-    ensures { λ _. ⌜ now (work .exit) ≡ accept (judgedOpenApply wall (ofState s) t (now (coefficients .entry)) (now (input .entry)) (length (now (store .entry))) (length (now (work .entry)))) (openWork wall (ofState s) (now (input .entry)) (now (store .entry))) (now (work .entry)) ⌝ }
+    ensures { λ r. ⌜ r ≡ given (opened wall (lend s (now (store .entry)) (now (work .entry))) (Play.apply t (now (coefficients .entry)) (now (input .entry)))) ⌝ }
+    ensures { λ _. ⌜ now (work .exit) ≡ opened wall (lend s (now (store .entry)) (now (work .entry))) (Play.apply t (now (coefficients .entry)) (now (input .entry))) .memory .work ⌝ }
 {
     let answer = judge_open_apply(s, t, coefficients, input, store.len(), work.len());
     if !is_accepted(answer) {
@@ -49,14 +42,14 @@ pub fn open_apply(
     let tail = tail_count(t, rate, f);
     let fs = filters_of(coefficients);
     begin_work(f, store, work);
-    frame::copy(input, &mut work[0..f]);
+    stages::copy(input, &mut work[0..f]);
     quiet(answer, opened(s, false, fs, tail.count))
 }
 
 // Begins a frame after the input has ended, to be done as jobs.
 pub fn open_tail(s: State, store: &[f32], work: &mut [f32]) -> Outcome
-    ensures { λ r. ⌜ r ≡ outcome (judgedOpenTail wall (ofState s) (length (now (store .entry))) (length (now (work .entry)))) (accept (judgedOpenTail wall (ofState s) (length (now (store .entry))) (length (now (work .entry)))) (opened wall (ofState s) Play.tail) (ofState s)) TailComplete ⌝ }
-    ensures { λ _. ⌜ now (work .exit) ≡ accept (judgedOpenTail wall (ofState s) (length (now (store .entry))) (length (now (work .entry)))) (openWork wall (ofState s) (replicate (s .frame) +0) (now (store .entry))) (now (work .entry)) ⌝ }
+    ensures { λ r. ⌜ r ≡ given (opened wall (lend s (now (store .entry)) (now (work .entry))) Play.tail) ⌝ }
+    ensures { λ _. ⌜ now (work .exit) ≡ opened wall (lend s (now (store .entry)) (now (work .entry))) Play.tail .memory .work ⌝ }
 {
     let answer = judge_open_tail(s, store.len(), work.len());
     if !is_accepted(answer) {

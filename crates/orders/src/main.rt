@@ -9,7 +9,7 @@ use jobs::job_read;
 use libc::STDOUT_FILENO;
 use samples::and;
 use samples::number;
-use silence::Outcome;
+use unit::Outcome;
 use unit::State;
 
 // A unit on the way, and whether each request so far was answered as it should be.
@@ -52,7 +52,7 @@ fn times() -> Times {
 
 // A unit that has sounded for five frames, so that all of its rings hold something.
 fn begin(store: &mut [f32], work: &mut [f32]) -> State {
-    let fresh = silence::fresh(48000, 128, store);
+    let fresh = reverb::fresh(48000, 128, store);
     let mut state = fresh.state;
     let mut output = [0.0f32; 128];
     let cs = coefficients();
@@ -146,7 +146,7 @@ fn whole_calls(g: Going, store: &mut [f32], work: &mut [f32], output: &mut [f32]
     let s = g.state;
     let a = answered(g.ok, reverb::tail(s, store, work, output), 5);
     let t = a.state;
-    answered(a.ok, silence::reset(t, store), 5)
+    answered(a.ok, reverb::reset(t, store), 5)
 }
 
 // A job on a work memory of the wrong length.

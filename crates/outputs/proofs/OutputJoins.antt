@@ -16,11 +16,11 @@ use Rattle.delay.specs.Calls.{both}
 use Rattle.unit.specs.Sizes.{total}
 use Rattle.iir.specs.declared.Filter.{Filter}
 use Rattle.iir.specs.Runs.{bandsOut, bandsEnd}
-use Rattle.frame.specs.Lines.{three, threeOf, sumRows}
-use Rattle.frame.specs.Frame.{stretch, stageAt, ringsOf, outputRow}
+use Rattle.stages.specs.Lines.{three, threeOf, sumRows}
+use Rattle.stages.specs.Frame.{stretch, stageAt, ringsOf, outputRow}
 use Rattle.allpass.specs.Passes.{Stage, passOut, passEnd}
 use Rattle.allpass.specs.Stages.{staged}
-use Rattle.frame.specs.Steps.{divided}
+use Rattle.stages.specs.Steps.{divided}
 use Rattle.allpass.proofs.Stages.{length-passOut, pass-rings, staged-laid}
 use Rattle.rows.proofs.RowJoins.{total-next, total-front}
 

@@ -12,8 +12,8 @@ use Rattle.samples.specs.Binary32.{+0}
 use Rattle.samples.proofs.Turns.{more}
 use Rattle.samples.proofs.Lists.{in-front, to-end, over-last}
 use Rattle.samples.proofs.Rows.{Left, all-left, row-fits, row-done}
-use Rattle.frame.specs.Lines.{plus, sumRows}
-use Rattle.frame.specs.Steps.{addedFirst}
+use Rattle.stages.specs.Lines.{plus, sumRows}
+use Rattle.stages.specs.Steps.{addedFirst}
 use Rattle.rows.proofs.SumTurns.{sum, sum-long, added-in}
 
 -- ---- the rows read summed into the last row, at `at`: b is where row i begins, and `front` is all before the sum

@@ -7,7 +7,7 @@ use Rattle.samples.specs.Lists.{over}
 use Rattle.delay.specs.declared.Cursors.{Cursors}
 use Rattle.iir.specs.declared.Filter.{Filter}
 use Rattle.unit.specs.Model.{Model}
-use Rattle.frame.specs.Frame.{OutputRow, outputRow}
+use Rattle.stages.specs.Frame.{OutputRow, outputRow}
 use Rattle.rows.specs.Rows.{Rows, rowsOf, laid}
 
 -- step 5 from the rows read and the allpass rings in the work memory

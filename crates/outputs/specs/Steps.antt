@@ -7,7 +7,7 @@ use lib.ListN.{length, take, drop}
 use Rattle.samples.specs.Lists.{over}
 use Rattle.delay.specs.declared.Cursors.{Cursors}
 use Rattle.iir.specs.declared.Filter.{Filter}
-use Rattle.frame.specs.Frame.{OutputRow, outputRow}
+use Rattle.stages.specs.Frame.{OutputRow, outputRow}
 use Rattle.rows.specs.Fits.{outputFits}
 
 -- step 5 from n rows read and the allpass rings, which lie after n mixed rows and the output

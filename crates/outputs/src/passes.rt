@@ -10,7 +10,7 @@ ghost use lib.ListN.{length, take, drop};
 ghost use Rattle.samples.specs.Lists.{over};
 ghost use Rattle.unit.specs.Sizes.{total};
 ghost use Rattle.allpass.specs.Passes.{passOut, passEnd};
-ghost use Rattle.frame.specs.Frame.{stageAt, ringsOf};
+ghost use Rattle.stages.specs.Frame.{stageAt, ringsOf};
 ghost use Rattle.outputs.specs.Steps.{outputFrom};
 
 // Both allpass stages over a row, after which their four rings lie.

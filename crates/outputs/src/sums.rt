@@ -4,7 +4,7 @@ ghost use mathlib.Core.List.{_++_, map};
 ghost use Prim.Native.Nat.{_+_, _*_};
 ghost use lib.ListN.{length, take, replicate};
 ghost use Rattle.samples.specs.Binary32.{_⊘_, +0};
-ghost use Rattle.frame.specs.Lines.{sumRows};
+ghost use Rattle.stages.specs.Lines.{sumRows};
 
 // Sums the rows read into the output. `rows` are the n rows read, the n mixed and the output.
 pub(crate) fn sum_lines(n: usize, f: usize, rows: &mut [f32])
@@ -16,7 +16,7 @@ pub(crate) fn sum_lines(n: usize, f: usize, rows: &mut [f32])
     samples::clear(&mut rows[at..]);
     let mut b = 0usize;
     for _ in 0..n {
-        frame::add_first(&mut rows[b..], f);
+        stages::add_first(&mut rows[b..], f);
         b += f;
     }
 }
@@ -29,5 +29,5 @@ pub(crate) fn sum_row(n: usize, f: usize, divisor: f32, rows: &mut [f32])
     let m = n * f;
     let at = m + m;
     sum_lines(n, f, rows);
-    frame::divide(&mut rows[at..], divisor);
+    stages::divide(&mut rows[at..], divisor);
 }

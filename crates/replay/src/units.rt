@@ -10,7 +10,7 @@ use crate::tape::same_row;
 use audio_buffer::AudioEffectState;
 use bands::Times;
 use samples::Frames;
-use silence::Outcome;
+use unit::Outcome;
 use unit::State;
 
 // A unit on its way, and where the replay is.
@@ -76,7 +76,7 @@ fn live(
 
 // The fresh unit.
 fn begin(t: Tape, store: &mut [f32]) -> Going {
-    let a = silence::fresh(t.a, t.b as usize, store);
+    let a = reverb::fresh(t.a, t.b as usize, store);
     let answer = a.answer;
     let state = a.state;
     let u = same(t, b"answer", 0, samples::number(answer) as u64, 0);
@@ -187,7 +187,7 @@ fn call(
         return reverb::tail(s, store, work, output);
     }
     if t.kind == crate::tape::RESET {
-        return silence::reset(s, store);
+        return reverb::reset(s, store);
     }
     reverb::apply(s, times(t), cs, input, store, work, output)
 }

@@ -1,1 +1,2 @@
+pub mod FilterTurns
 pub mod WholeParts

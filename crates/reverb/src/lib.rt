@@ -1,27 +1,62 @@
-// The unit's whole frames, apply and tail: each takes the state by value and gives it back.
+// The unit's calls that aren't jobs: fresh and reset, which leave it silent, and the whole frames, apply
+// and tail. Each takes the state by value and gives it back.
 //
-// Its contracts cite `specs/`: what each call answers, and what it leaves of the state and of the
-// memory lent.
+// Their contracts cite the machine: how each call ends.
+mod filters;
 mod units;
 
 use crate::units::whole_frame;
 use bands::Times;
+use bands::fallen;
 use bands::tail_count;
-use filters::filters_of;
+pub use filters::filters_of;
 use judges::judge_apply;
+use judges::judge_fresh;
+use judges::judge_reset;
 use judges::judge_tail;
+use samples::Frames;
+use samples::clear;
 use samples::is_accepted;
-use silence::Outcome;
-use silence::fallen;
-use silence::quiet;
+use unit::Outcome;
 use unit::State;
+use unit::fresh_state;
+use unit::quiet;
 ghost use mathlib.Core.Path.{_≡_};
-ghost use lib.ListN.{length};
-ghost use Rattle.unit.specs.Hall.{ofState};
+ghost use mathlib.Core.List.{[]};
 ghost use Rattle.unit.specs.Model.{wall};
-ghost use Rattle.judges.specs.Judges.{judgedTail, judgedApply};
-ghost use Rattle.frame.specs.Settle.{fallen};
-ghost use Rattle.reverb.specs.Whole.{applyFrame, applyCount, tailFrame, wholeOutcome, wholeStore, wholeWork, wholeOutput};
+ghost use Rattle.machine.specs.Ending.{lend, given};
+ghost use Rattle.machine.specs.Whole as Play;
+ghost use Rattle.machine.specs.Whole.{begun, silenced, atOnce};
+
+// A unit in which nothing has sounded yet, and its store cleared.
+pub fn fresh(rate: u32, frame: usize, store: &mut [f32]) -> Outcome
+    ensures { λ r. ⌜ r ≡ given (begun wall rate frame (now (store .entry))) ⌝ }
+    ensures { λ _. ⌜ now (store .exit) ≡ begun wall rate frame (now (store .entry)) .memory .store ⌝ }
+{
+    let answer = judge_fresh(rate, frame, store.len());
+    if !is_accepted(answer) {
+        let state = fresh_state(8000, 4);
+        return quiet(answer, state);
+    }
+    clear(store);
+    quiet(answer, fresh_state(rate, frame))
+}
+
+// Silences the unit: its store is cleared and no tail is left. Cursors and filters stay.
+pub fn reset(s: State, store: &mut [f32]) -> Outcome
+    ensures { λ r. ⌜ r ≡ given (silenced wall (lend s (now (store .entry)) [])) ⌝ }
+    ensures { λ _. ⌜ now (store .exit) ≡ silenced wall (lend s (now (store .entry)) []) .memory .store ⌝ }
+{
+    let answer = judge_reset(s, store.len());
+    if !is_accepted(answer) {
+        return quiet(answer, s);
+    }
+    clear(store);
+    let none = Frames(0);
+    let mut t = s;
+    t.count = none;
+    quiet(answer, t)
+}
 
 // A frame of input: the lines sound through filters of the given coefficients, the input is added to
 // each, and the tail that is to come is counted by the times.
@@ -34,10 +69,10 @@ pub fn apply(
     work: &mut [f32],
     output: &mut [f32],
 ) -> Outcome
-    ensures { λ r. ⌜ r ≡ wholeOutcome wall (ofState s) (judgedApply wall (ofState s) t (now (coefficients .entry)) (now (input .entry)) (length (now (store .entry))) (length (now (work .entry))) (length (now (output .entry)))) (applyFrame wall (ofState s) (now (coefficients .entry)) (now (input .entry)) (now (store .entry))) (applyCount (ofState s) t) ⌝ }
-    ensures { λ _. ⌜ now (store .exit) ≡ wholeStore wall (ofState s) (judgedApply wall (ofState s) t (now (coefficients .entry)) (now (input .entry)) (length (now (store .entry))) (length (now (work .entry))) (length (now (output .entry)))) (applyFrame wall (ofState s) (now (coefficients .entry)) (now (input .entry)) (now (store .entry))) (now (store .entry)) ⌝ }
-    ensures { λ _. ⌜ now (work .exit) ≡ wholeWork (judgedApply wall (ofState s) t (now (coefficients .entry)) (now (input .entry)) (length (now (store .entry))) (length (now (work .entry))) (length (now (output .entry)))) (now (work .entry)) ⌝ }
-    ensures { λ _. ⌜ now (output .exit) ≡ wholeOutput (judgedApply wall (ofState s) t (now (coefficients .entry)) (now (input .entry)) (length (now (store .entry))) (length (now (work .entry))) (length (now (output .entry)))) (applyFrame wall (ofState s) (now (coefficients .entry)) (now (input .entry)) (now (store .entry))) (now (output .entry)) ⌝ }
+    ensures { λ r. ⌜ r ≡ given (atOnce wall (lend s (now (store .entry)) (now (work .entry))) (Play.apply t (now (coefficients .entry)) (now (input .entry))) (now (output .entry))) ⌝ }
+    ensures { λ _. ⌜ now (store .exit) ≡ atOnce wall (lend s (now (store .entry)) (now (work .entry))) (Play.apply t (now (coefficients .entry)) (now (input .entry))) (now (output .entry)) .memory .store ⌝ }
+    ensures { λ _. ⌜ now (work .exit) ≡ atOnce wall (lend s (now (store .entry)) (now (work .entry))) (Play.apply t (now (coefficients .entry)) (now (input .entry))) (now (output .entry)) .memory .work ⌝ }
+    ensures { λ _. ⌜ now (output .exit) ≡ atOnce wall (lend s (now (store .entry)) (now (work .entry))) (Play.apply t (now (coefficients .entry)) (now (input .entry))) (now (output .entry)) .output ⌝ }
 {
     let answer = judge_apply(
         s,
@@ -55,17 +90,17 @@ pub fn apply(
     let f = s.frame;
     let tail = tail_count(t, rate, f);
     let fs = filters_of(coefficients);
-    frame::copy(input, &mut work[0..f]);
+    stages::copy(input, &mut work[0..f]);
     whole_frame(s, false, fs, tail.count, store, work, output)
 }
 
 // A frame after the input has ended: the lines go on sounding through the filters kept, and one frame
 // less is to come.
 pub fn tail(s: State, store: &mut [f32], work: &mut [f32], output: &mut [f32]) -> Outcome
-    ensures { λ r. ⌜ r ≡ wholeOutcome wall (ofState s) (judgedTail wall (ofState s) (length (now (store .entry))) (length (now (work .entry))) (length (now (output .entry)))) (tailFrame wall (ofState s) (now (store .entry))) (fallen (s .count .0)) ⌝ }
-    ensures { λ _. ⌜ now (store .exit) ≡ wholeStore wall (ofState s) (judgedTail wall (ofState s) (length (now (store .entry))) (length (now (work .entry))) (length (now (output .entry)))) (tailFrame wall (ofState s) (now (store .entry))) (now (store .entry)) ⌝ }
-    ensures { λ _. ⌜ now (work .exit) ≡ wholeWork (judgedTail wall (ofState s) (length (now (store .entry))) (length (now (work .entry))) (length (now (output .entry)))) (now (work .entry)) ⌝ }
-    ensures { λ _. ⌜ now (output .exit) ≡ wholeOutput (judgedTail wall (ofState s) (length (now (store .entry))) (length (now (work .entry))) (length (now (output .entry)))) (tailFrame wall (ofState s) (now (store .entry))) (now (output .entry)) ⌝ }
+    ensures { λ r. ⌜ r ≡ given (atOnce wall (lend s (now (store .entry)) (now (work .entry))) Play.tail (now (output .entry))) ⌝ }
+    ensures { λ _. ⌜ now (store .exit) ≡ atOnce wall (lend s (now (store .entry)) (now (work .entry))) Play.tail (now (output .entry)) .memory .store ⌝ }
+    ensures { λ _. ⌜ now (work .exit) ≡ atOnce wall (lend s (now (store .entry)) (now (work .entry))) Play.tail (now (output .entry)) .memory .work ⌝ }
+    ensures { λ _. ⌜ now (output .exit) ≡ atOnce wall (lend s (now (store .entry)) (now (work .entry))) Play.tail (now (output .entry)) .output ⌝ }
 {
     let answer = judge_tail(s, store.len(), work.len(), output.len());
     if !is_accepted(answer) {

@@ -20,8 +20,8 @@ use Rattle.iir.specs.Runs.{bandsOut, bandsEnd}
 use Rattle.iir.proofs.Laws.{bands-length}
 use Rattle.lanes.specs.declared.bank.FourBands.{FourBands}
 use Rattle.bank.specs.Lines.{lines, linesOut, linesEnd}
-use Rattle.frame.specs.Lines.{noFilter, bandRows, bandEnds, three, threeOf}
-use Rattle.frame.proofs.RowLaws.{byBands, peel, length-bandEnds}
+use Rattle.stages.specs.Lines.{noFilter, bandRows, bandEnds, three, threeOf}
+use Rattle.stages.proofs.RowLaws.{byBands, peel, length-bandEnds}
 use Rattle.rows.specs.Groups.{fourFrom, inOrder}
 
 -- ---- filters stored from k on

@@ -6,3 +6,4 @@ pub mod RowJoins
 pub mod RowsOf
 pub mod RowFits
 pub mod LineLaid
+pub mod ReadLaid

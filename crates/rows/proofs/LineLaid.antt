@@ -16,9 +16,9 @@ use Rattle.iir.specs.declared.Filter.{Filter}
 use Rattle.iir.specs.Runs.{bandsOut, bandsEnd}
 use Rattle.iir.proofs.Laws.{bands-length}
 use Rattle.unit.specs.Model.{wall}
-use Rattle.frame.specs.Lines.{three, threeOf, plus}
-use Rattle.frame.specs.Steps.{addedFirst}
-use Rattle.frame.proofs.RowLaws.{length-plus}
+use Rattle.stages.specs.Lines.{three, threeOf, plus}
+use Rattle.stages.specs.Steps.{addedFirst}
+use Rattle.stages.proofs.RowLaws.{length-plus}
 use Rattle.rows.specs.Fits.{WorkFits}
 use Rattle.rows.specs.Rows.{rowsOf, joined, laid}
 use Rattle.rows.specs.Parts.{lineLaid, lineEnds}

@@ -16,9 +16,9 @@ use Rattle.hadamard.specs.Rows.{mixedRows, judgedRows, rowsMixed}
 use Rattle.hadamard.proofs.Laws.{rows-accepted, rows-joined}
 use Rattle.unit.specs.Sizes.{total}
 use Rattle.iir.specs.declared.Filter.{Filter}
-use Rattle.frame.specs.Lines.{bandEnds, addRows}
-use Rattle.frame.specs.Frame.{lineRows}
-use Rattle.frame.proofs.RowLaws.{byBands, length-bandEnds}
+use Rattle.stages.specs.Lines.{bandEnds, addRows}
+use Rattle.stages.specs.Frame.{lineRows}
+use Rattle.stages.proofs.RowLaws.{byBands, length-bandEnds}
 
 -- ---- the input, n rows read and n others: these become the mixed rows, go through their bands, and get the input unless in a tail
 

@@ -11,9 +11,9 @@ use Rattle.samples.specs.Lists.{over}
 use Rattle.samples.proofs.Turns.{more, all-done}
 use Rattle.samples.proofs.Lists.{drop-take, over-front, over-length, over-done, over-left}
 use Rattle.samples.proofs.Rows.{Left, row-fits, row-done, none-left}
-use Rattle.frame.specs.Lines.{plus, addRows}
-use Rattle.frame.specs.Steps.{addedFirst}
-use Rattle.frame.proofs.RowLaws.{length-plus, added-first}
+use Rattle.stages.specs.Lines.{plus, addRows}
+use Rattle.stages.specs.Steps.{addedFirst}
+use Rattle.stages.proofs.RowLaws.{length-plus, added-first}
 
 -- ---- the row at a added to a later one, at `at`
 

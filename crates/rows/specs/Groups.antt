@@ -3,7 +3,7 @@ use Prim.Native.Nat.{ℕ, _+_}
 use mathlib.Core.List.{List, [], _∷_, _++_}
 use Rattle.iir.specs.declared.Filter.{Filter}
 use Rattle.iir.specs.declared.Bands.{Bands}
-use Rattle.frame.specs.Lines.{three, threeOf}
+use Rattle.stages.specs.Lines.{three, threeOf}
 
 -- the bands of four lines: the twelve filters from k on, three a line
 abbrev pub fourFrom : ℕ → List Filter → List Bands

@@ -1,5 +1,7 @@
 pub mod Rows
+pub mod Rings
 pub mod Fits
+pub mod Reads
 pub mod Steps
 pub mod Parts
 pub mod Groups

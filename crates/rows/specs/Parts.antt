@@ -7,7 +7,7 @@ use Rattle.samples.specs.Lists.{over, row, setRow}
 use Rattle.iir.specs.declared.Filter.{Filter}
 use Rattle.iir.specs.Runs.{bandsOut, bandsEnd}
 use Rattle.unit.specs.Model.{Model}
-use Rattle.frame.specs.Lines.{three, threeOf, plus}
+use Rattle.stages.specs.Lines.{three, threeOf, plus}
 use Rattle.rows.specs.Rows.{Rows, rowsOf, laid}
 
 -- step 4 of line i, "bands and input, no put": its three filters are those from 3 i on, and a tail adds no input

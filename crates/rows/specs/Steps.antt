@@ -5,7 +5,7 @@ use mathlib.Core.List.{List, _++_}
 use lib.Ieee.{Float}
 use lib.ListN.{length, take, drop}
 use Rattle.iir.specs.declared.Filter.{Filter}
-use Rattle.frame.specs.Frame.{LineRows, lineRows}
+use Rattle.stages.specs.Frame.{LineRows, lineRows}
 use Rattle.rows.specs.Fits.{linesFit}
 
 -- steps 3 and 4 from the input and the n rows read after it

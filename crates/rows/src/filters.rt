@@ -11,7 +11,7 @@ ghost use lib.ListN.{length, drop};
 ghost use Rattle.samples.specs.Lists.{over};
 ghost use Rattle.iir.specs.Runs.{bandsOut, bandsEnd};
 ghost use Rattle.bank.specs.Lines.{linesOut, linesEnd};
-ghost use Rattle.frame.specs.Lines.{bandRows, bandEnds, three, threeOf};
+ghost use Rattle.stages.specs.Lines.{bandRows, bandEnds, three, threeOf};
 ghost use Rattle.rows.specs.Groups.{fourFrom, inOrder};
 
 // The three filters from k on.

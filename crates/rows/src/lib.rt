@@ -1,10 +1,11 @@
-// The steps of a frame's lines on rows that lie in memory one after the other: the mix, the bands and
-// the input.
+// The steps of a frame's lines on rows that lie in memory one after the other: one line read, the mix,
+// the bands and the input.
 //
 // Its contracts cite `specs/`: how the rows of a frame lie, what the steps ask of the memory lent, and
 // what they leave of it.
 mod filters;
 mod fits;
+mod reads;
 mod sums;
 
 use crate::filters::band_lines;
@@ -15,6 +16,7 @@ pub use filters::three_at;
 pub use fits::output_fits;
 pub use fits::work_for;
 use iir::Filter;
+pub use reads::read_line;
 use samples::and;
 ghost use mathlib.Core.Path.{_≡_};
 ghost use mathlib.Core.Bool.{true, _&&_};

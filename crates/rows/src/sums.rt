@@ -4,8 +4,8 @@ ghost use mathlib.Core.Bool.{cond};
 ghost use mathlib.Core.List.{_++_};
 ghost use Prim.Native.Nat.{_+_, _*_};
 ghost use lib.ListN.{length, take, drop};
-ghost use Rattle.frame.specs.Lines.{addRows};
-ghost use Rattle.frame.specs.Steps.{addedFirst};
+ghost use Rattle.stages.specs.Lines.{addRows};
+ghost use Rattle.stages.specs.Steps.{addedFirst};
 
 // Adds the input to each mixed row. `rows` are the input, the n rows read and the n mixed.
 pub(crate) fn add_lines(n: usize, f: usize, rows: &mut [f32])
@@ -15,7 +15,7 @@ pub(crate) fn add_lines(n: usize, f: usize, rows: &mut [f32])
     let mut e = f + n * f;
     for _ in 0..n {
         e += f;
-        frame::add_first(&mut rows[0..e], f);
+        stages::add_first(&mut rows[0..e], f);
     }
 }
 
@@ -37,5 +37,5 @@ pub(crate) fn add_input(tail: bool, f: usize, rows: &mut [f32])
     if tail {
         return;
     }
-    frame::add_first(rows, f);
+    stages::add_first(rows, f);
 }

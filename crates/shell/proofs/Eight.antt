@@ -15,7 +15,7 @@ use Rattle.samples.specs.Binary32.{finite}
 use Rattle.search.specs.Search.{firstBad, allFinite}
 use Rattle.samples.proofs.Turns.{lt-or-ge}
 use Rattle.bands.specs.Times.{timeOk, timesOk}
-use Rattle.unit.specs.Hall.{Hall}
+use Rattle.unit.specs.UnitState.{UnitState}
 use Rattle.unit.specs.Model.{wall}
 use Rattle.judges.specs.Judges.{judged, givenOk, lentOk, badInput, judgedGiven}
 use Rattle.shell.specs.Settings.{frame, storeFloats, workFloats, times, lineGains, coefficients}
@@ -31,10 +31,10 @@ unfolding coefficients lineGains finite ofBits
 coefficients-finite = refl
 
 -- what is due of an apply before its times, coefficients and input are looked at: 1 3 5
-abbrev pub readyDue : Hall → Answer
-readyDue u = judged wall u (givenOk wall u 255 frame && lentOk wall u storeFloats workFloats frame) true (not (u .busy))
+abbrev pub readyDue : UnitState → Answer
+readyDue u = judged wall u (givenOk wall u 255 frame && lentOk wall u storeFloats workFloats frame) true (not (u .held .busy))
 
-pub eight : (u : Hall) (bytes : List ℕ) → readyDue u ≡ Accepted → inputDue u bytes ≡ badInput (firstBad (heard bytes))
+pub eight : (u : UnitState) (bytes : List ℕ) → readyDue u ≡ Accepted → inputDue u bytes ≡ badInput (firstBad (heard bytes))
 unfolding judgedGiven coefficients lineGains
 eight u bytes h = ap (λ a. orElse a (judgedGiven times coefficients (heard bytes))) h ∙ rw (times-fit, coefficients-finite)
 

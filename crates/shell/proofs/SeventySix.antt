@@ -8,11 +8,11 @@ use Rattle.samples.specs.Answers.{accepted}
 use Rattle.samples.proofs.Laws.{accept-yes, accept-no}
 use Rattle.bands.specs.Times.{larger}
 use Rattle.bands.specs.Tail.{ceiling, tailCount}
-use Rattle.unit.specs.Hall.{Hall}
+use Rattle.unit.specs.UnitState.{UnitState}
 use Rattle.unit.specs.Model.{wall}
-use Rattle.unit.specs.Fresh.{freshHall}
+use Rattle.unit.specs.Fresh.{freshUnit}
 use Rattle.unit.specs.Sizes.{lengthsFrom, total, storeLen, workLen}
-use Rattle.frame.specs.Frame.{newFilters}
+use Rattle.stages.specs.Frame.{newFilters}
 use Rattle.reverb.specs.Whole.{after, applyCount, wholeUnit}
 use Rattle.shell.specs.Settings.{frame, rate, times, calls}
 use Rattle.shell.specs.Frames.{inputFrame}
@@ -23,20 +23,20 @@ unfolding ofBits ofInt mul div lt eq larger ceiling
 count-is = refl
 
 -- a frame leaves rate and frame, and its count is 76 where it is accepted
-one-frame : (u : Hall) (x : Input) (b : Bool) → accepted (answered u x) ≡ b → u .rate ≡ rate → u .frame ≡ frame
+one-frame : (u : UnitState) (x : Input) (b : Bool) → accepted (answered u x) ≡ b → u .settings .rate ≡ rate → u .settings .frame ≡ frame
     → (next u x .rate ≡ rate) × (next u x .frame ≡ frame) × (calls (next u x .count) ≡ cond b 76 (calls (u .count)))
 unfolding wholeUnit
 one-frame u x true e p q =
     let h = accept-yes (answered u x) (after wall u (newFilters (inputFrame u (x .bytes) (x .store))) (applyCount u times)) u e in (
-      ap (λ (v : Hall). v .rate) h ∙ p,
-      ap (λ (v : Hall). v .frame) h ∙ q,
-      ap (λ (v : Hall). calls (v .count)) h ∙ (λ j. tailCount times (p j) (q j)) ∙ count-is,
+      ap (λ (v : UnitState). v .settings .rate) h ∙ p,
+      ap (λ (v : UnitState). v .settings .frame) h ∙ q,
+      ap (λ (v : UnitState). calls (v .count)) h ∙ (λ j. tailCount times (p j) (q j)) ∙ count-is,
     )
 one-frame u x false e p q =
     let h = accept-no (answered u x) (after wall u (newFilters (inputFrame u (x .bytes) (x .store))) (applyCount u times)) u e in (
-      ap (λ (v : Hall). v .rate) h ∙ p,
-      ap (λ (v : Hall). v .frame) h ∙ q,
-      ap (λ (v : Hall). calls (v .count)) h,
+      ap (λ (v : UnitState). v .settings .rate) h ∙ p,
+      ap (λ (v : UnitState). v .settings .frame) h ∙ q,
+      ap (λ (v : UnitState). calls (v .count)) h,
     )
 
 either : (b c : Bool) (k : ℕ) → cond c 76 (cond b 76 k) ≡ cond (b || c) 76 k
@@ -45,7 +45,7 @@ either true false k = refl
 either false true k = refl
 either false false k = refl
 
-all-frames : (u : Hall) (xs : List Input) → u .rate ≡ rate → u .frame ≡ frame → calls (last u xs .count) ≡ cond (any u xs) 76 (calls (u .count))
+all-frames : (u : UnitState) (xs : List Input) → u .settings .rate ≡ rate → u .settings .frame ≡ frame → calls (last u xs .count) ≡ cond (any u xs) 76 (calls (u .count))
 unfolding last any
 all-frames u [] p q = refl
 all-frames u (x ∷ xs) p q =
@@ -56,7 +56,7 @@ all-frames u (x ∷ xs) p q =
     ∙ either b (any (next u x) xs) (calls (u .count))
 
 pub seventy-six : SeventySix
-seventy-six xs = all-frames (freshHall wall rate frame) xs refl refl
+seventy-six xs = all-frames (freshUnit wall rate frame) xs refl refl
 
 pub room : Room
 unfolding lengthsFrom total storeLen workLen

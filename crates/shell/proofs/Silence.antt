@@ -11,7 +11,7 @@ use Rattle.samples.specs.Binary32.{+0}
 use Rattle.samples.proofs.Laws.{accept-yes, accept-no}
 use Rattle.wire.specs.Wire.{encoded, written}
 use Rattle.wire.proofs.Laws.{encoded-silence, written-all}
-use Rattle.frame.specs.Frame.{Frame}
+use Rattle.stages.specs.Frame.{Frame}
 use Rattle.reverb.specs.Whole.{wholeAnswer, wholeOutput}
 use Rattle.shell.specs.Frames.{said}
 

@@ -19,29 +19,29 @@ use Rattle.samples.proofs.Laws.{split-and, join-and, accept-either}
 use Rattle.delay.specs.declared.Cursors.{Cursors}
 use Rattle.iir.specs.declared.Filter.{Filter}
 use Rattle.iir.specs.Nine.{nine}
-use Rattle.unit.specs.Hall.{Hall}
+use Rattle.unit.specs.UnitState.{UnitState}
 use Rattle.unit.specs.Model.{wall}
-use Rattle.unit.specs.Fresh.{freshHall}
+use Rattle.unit.specs.Fresh.{freshUnit}
 use Rattle.unit.specs.Sizes.{lengthsFrom, lineLengths, total, storeLen, workLen}
 use Rattle.unit.specs.Range.{below, linesOk, passesOk, unmarked, blankFilters, blankOpen, inRange}
 use Rattle.judges.specs.Judges.{judged}
-use Rattle.frame.specs.Frame.{Frame, newFilters}
-use Rattle.frame.specs.Settle.{movedBy, allMoved}
+use Rattle.stages.specs.Frame.{Frame, newFilters}
+use Rattle.stages.specs.Settle.{movedBy, allMoved}
 use Rattle.reverb.specs.Whole.{after, wholeAnswer, wholeUnit}
 use Rattle.shell.specs.Settings.{frame, rate}
 use Rattle.shell.specs.Frames.{tailDue}
 use Rattle.shell.specs.Refused.{Turn, input, tail, turned, OnlySamples}
 use Rattle.shell.proofs.Eight.{readyDue, eight}
 
-pub record Steady (u : Hall) : Type 0 where
-  pub rate-is : u .rate ≡ rate
-  pub frame-is : u .frame ≡ frame
-  pub lines-in : linesOk wall frame (u .lines) ≡ true
-  pub passes-in : passesOk wall (u .passes) ≡ true
-  pub shut : u .busy ≡ false
+pub record Steady (u : UnitState) : Type 0 where
+  pub rate-is : u .settings .rate ≡ rate
+  pub frame-is : u .settings .frame ≡ frame
+  pub lines-in : linesOk wall frame (u .cursors .lines) ≡ true
+  pub passes-in : passesOk wall (u .cursors .passes) ≡ true
+  pub shut : u .held .busy ≡ false
   pub blank : blankOpen u ≡ true
 
-begins : Steady (freshHall wall rate frame)
+begins : Steady (freshUnit wall rate frame)
 unfolding below linesOk passesOk unmarked blankFilters blankOpen nine plusZero ofBits
 begins = record { rate-is = refl; frame-is = refl; lines-in = refl; passes-in = refl; shut = refl; blank = refl }
 
@@ -88,22 +88,22 @@ passes-moved (a ∷ b ∷ c ∷ d ∷ cs) e =
 
 -- ---- a whole call leaves a steady unit
 
-steady-after : (u : Hall) (fs : List Filter) (count : ℤ) → Steady u → Steady (after wall u fs count)
+steady-after : (u : UnitState) (fs : List Filter) (count : ℤ) → Steady u → Steady (after wall u fs count)
 unfolding linesOk blankOpen
 steady-after u fs count s = record {
   rate-is = s .rate-is;
   frame-is = s .frame-is;
-  lines-in = ap (λ (f : ℕ). linesOk wall frame (allMoved f (lineLengths wall f) (u .lines))) (s .frame-is) ∙ lines-moved 16 0 (u .lines) (s .lines-in);
-  passes-in = ap (λ (f : ℕ). passesOk wall (allMoved f (wall .passes) (u .passes))) (s .frame-is) ∙ passes-moved (u .passes) (s .passes-in);
+  lines-in = ap (λ (f : ℕ). linesOk wall frame (allMoved f (lineLengths wall f) (u .cursors .lines))) (s .frame-is) ∙ lines-moved 16 0 (u .cursors .lines) (s .lines-in);
+  passes-in = ap (λ (f : ℕ). passesOk wall (allMoved f (wall .passes) (u .cursors .passes))) (s .frame-is) ∙ passes-moved (u .cursors .passes) (s .passes-in);
   shut = s .shut;
   blank = s .blank;
 }
 
-steady-whole : (u : Hall) (due : Answer) (r : Frame) (count : ℤ) → Steady u → Steady (wholeUnit wall u due r count)
+steady-whole : (u : UnitState) (due : Answer) (r : Frame) (count : ℤ) → Steady u → Steady (wholeUnit wall u due r count)
 unfolding wholeUnit
 steady-whole u due r count s = accept-either Steady (wholeAnswer due r) (λ _. steady-after u (newFilters r) count s) (λ _. s)
 
-steady-turned : (u : Hall) (ts : List Turn) → Steady u → Steady (turned u ts)
+steady-turned : (u : UnitState) (ts : List Turn) → Steady u → Steady (turned u ts)
 unfolding turned
 steady-turned u [] s = s
 steady-turned u (input bytes store ∷ ts) s = steady-turned _ ts (steady-whole u _ _ _ s)
@@ -111,16 +111,16 @@ steady-turned u (tail store ∷ ts) s = steady-turned _ ts (steady-whole u _ _ _
 
 -- ---- and nothing but its samples refuses what it is given
 
-in-range : (u : Hall) → Steady u → inRange wall u ≡ true
+in-range : (u : UnitState) → Steady u → inRange wall u ≡ true
 unfolding inRange rateOk frameOk blankOpen
 in-range u s = rw (s .rate-is, s .frame-is, s .lines-in, s .passes-in, s .shut, s .blank)
 
-ready : (u : Hall) → Steady u → (readyDue u ≡ Accepted) × (tailDue u ≡ Accepted)
+ready : (u : UnitState) → Steady u → (readyDue u ≡ Accepted) × (tailDue u ≡ Accepted)
 unfolding judged lengthsFrom total storeLen workLen
 ready u s = let r = in-range u s in (rw (r, s .frame-is, s .shut), rw (r, s .frame-is, s .shut))
 
 pub only-samples : OnlySamples
 only-samples ts bytes =
-    let u = turned (freshHall wall rate frame) ts in
-    let r = ready u (steady-turned (freshHall wall rate frame) ts begins) in
+    let u = turned (freshUnit wall rate frame) ts in
+    let r = ready u (steady-turned (freshUnit wall rate frame) ts begins) in
     (eight u bytes (r .0), r .1)

@@ -11,10 +11,10 @@ pub use settings::coefficients;
 pub use settings::start;
 pub use settings::tail_calls;
 pub use settings::times;
-use silence::Outcome;
+use unit::Outcome;
 use unit::State;
 ghost use mathlib.Core.Path.{_≡_};
-ghost use Rattle.unit.specs.Hall.{ofState};
+ghost use Rattle.unit.specs.UnitState.{ofState};
 ghost use Rattle.shell.specs.Frames.{inputOutcome, inputStore, inputWork, inputSaid, tailOutcome, tailStore, tailWork, tailSaid};
 
 // A frame of input. The row of the output begins as +0, and a refused call leaves it.

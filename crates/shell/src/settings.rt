@@ -3,7 +3,7 @@
 use bands::Times;
 use samples::Frames;
 use samples::and;
-use silence::Outcome;
+use unit::Outcome;
 ghost use mathlib.Core.Path.{_≡_};
 ghost use mathlib.Core.Bool.{cond, _&&_};
 ghost use Prim.Native.Nat.{_%_};
@@ -13,8 +13,8 @@ ghost use lib.ListN.{replicate};
 ghost use Rattle.samples.specs.Binary32.{+0};
 ghost use Rattle.samples.specs.declared.Answer.the-variants.{Accepted};
 ghost use Rattle.unit.specs.Model.{wall};
-ghost use Rattle.unit.specs.Fresh.{freshHall};
-ghost use Rattle.silence.specs.Silence.{outcome};
+ghost use Rattle.unit.specs.Fresh.{freshUnit};
+ghost use Rattle.unit.specs.Outcome.{outcome};
 ghost use Rattle.audio_buffer.specs.declared.AudioEffectState.the-variants.{TailComplete};
 ghost use Rattle.shell.specs.Settings.{frame, rate, storeFloats, times, coefficients, calls};
 
@@ -55,10 +55,10 @@ pub fn coefficients() -> [f32; 255]
 
 // The program's unit, in which nothing has sounded yet.
 pub fn start(store: &mut [f32; STORE]) -> Outcome
-    ensures { λ r. ⌜ r ≡ outcome Accepted (freshHall wall rate frame) TailComplete ⌝ }
+    ensures { λ r. ⌜ r ≡ outcome Accepted (freshUnit wall rate frame) TailComplete ⌝ }
     ensures { λ _. ⌜ now (store .exit) ≡ replicate storeFloats +0 ⌝ }
 {
-    silence::fresh(48000, 128, store)
+    reverb::fresh(48000, 128, store)
 }
 
 // How many tail calls a count asks for.

@@ -3,9 +3,9 @@ use mathlib.Core.Path.{_≡_}
 use Prim.Native.Nat.{ℕ, _+_, _*_}
 use native.Mathlib.Omega.{arith}
 use Rattle.unit.specs.Model.{wall}
-use Rattle.unit.specs.Sizes.{lengthsFrom, total, storeLen, workLen}
+use Rattle.unit.specs.Sizes.{lengthsFrom, lengthsOf, total, storeLen, workLen}
 
-pub store-is : (f : ℕ) → storeLen wall f ≡ 7600 + 16 * f
+pub store-is : (f : ℕ) → storeLen wall (lengthsOf wall f) ≡ 7600 + 16 * f
 unfolding storeLen total lengthsFrom
 store-is f = omega arith
 

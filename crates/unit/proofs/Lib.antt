@@ -1,2 +1,4 @@
 pub mod Laws
+pub mod Outcomes
+pub mod Totals
 pub mod Ranges

@@ -1,19 +1,24 @@
 -- What the range of a state gives of each ring: its length, and its cursors below it. Assumes nothing.
 use mathlib.Core.Path.{_≡_, refl, sym, ap, _∙_}
-use mathlib.Core.Bool.{Bool, true}
-use mathlib.Core.List.{List, [], _∷_}
-use Prim.Native.Nat.{ℕ, zero, suc, _+_, _<_}
+use mathlib.Core.Bool.{Bool, true, false, _&&_, cond}
+use mathlib.Core.List.{List, [], _∷_, _++_}
+use Prim.Native.Nat.{ℕ, zero, suc, _+_, _-_, _*_, _<_, _≤_}
 use native.Mathlib.Nat.{add-zero, zero-add, add-suc, suc-add, not-suc-le-zero}
 use native.Mathlib.Omega.{arith}
-use lib.ListN.{length, getD}
-use borrow.Author.Tests.{ltb-true, lt-ltb}
+use lib.Dec.{leb}
+use lib.ListN.{length, getD, take, set, replicate}
+use borrow.Author.Tests.{ltb-true, lt-ltb, leb-true, le-leb}
 use Rattle.samples.specs.Lists.{allFrom}
-use Rattle.samples.proofs.Laws.{split-and}
+use Rattle.samples.specs.Sizes.{frameOk}
+use Rattle.samples.proofs.Laws.{split-and, join-and, all-at}
+use Rattle.samples.proofs.Turns.{stored}
 use Rattle.delay.specs.declared.Cursors.{Cursors}
 use Rattle.delay.specs.Calls.{both}
-use Rattle.unit.specs.Model.{Model}
-use Rattle.unit.specs.Sizes.{lengthsFrom}
-use Rattle.unit.specs.Range.{below}
+use Rattle.primes.proofs.Table.{delay-range}
+use Rattle.unit.specs.Model.{Model, wall}
+use Rattle.unit.specs.Sizes.{lengthsFrom, lengthsOf, total}
+use Rattle.unit.specs.Range.{below, cursorsIn}
+use Rattle.unit.specs.Room.{ringsHold}
 
 -- what all pass, the element at i passes, and so does what stands past the end where it passes
 all-or : {A : Type 0} (p : ℕ → A → Bool) (xs : List A) (k i : ℕ) (d : A) → allFrom p k xs ≡ true → p (k + i) d ≡ true → p (k + i) (getD xs i d) ≡ true
@@ -36,10 +41,21 @@ below-start : (l : ℕ) → 0 < l → below l (both 0) ≡ true
 unfolding below
 below-start l h = rw (lt-ltb 0 l)
 
-module _ (ls : ℕ → ℕ) (cs : List Cursors) (all : allFrom (λ i c. below (ls i) c) 0 cs ≡ true) where
-  pub cursors-at : (i : ℕ) → 0 < ls i → Below (ls i) (getD cs i (both 0))
-  cursors-at i h =
-      below-of _ _ (rw zero-add at (all-or (λ i c. below (ls i) c) cs 0 i (both 0) all (rw zero-add (below-start (ls i) h))))
+pub cursors-at : (ls : List ℕ) (cs : List Cursors) → cursorsIn ls cs ≡ true → (i : ℕ) → 0 < getD ls i 0 → Below (getD ls i 0) (getD cs i (both 0))
+unfolding cursorsIn
+cursors-at ls cs all i h =
+    below-of _ _ (rw zero-add at (all-or (λ i c. below (getD ls i 0) c) cs 0 i (both 0) all (rw zero-add (below-start (getD ls i 0) h))))
+
+-- ---- the lengths of the lines
+
+-- of n, those from line i on: one more is in its place
+pub lengths-turn : (m : Model) (f n i v : ℕ) (ls X : List ℕ) → i < n → i < length ls → v ≡ m .delay i + f
+    → take i ls ++ lengthsFrom m f (n - i) i ≡ X → take (i + 1) (set ls i v) ++ lengthsFrom m f (n - (i + 1)) (i + 1) ≡ X
+unfolding lengthsFrom
+lengths-turn m f n i v ls X h l e q =
+    let k : n - i ≡ suc (n - (i + 1)) = omega arith in
+    let left : lengthsFrom m f (n - i) i ≡ v ∷ lengthsFrom m f (n - (i + 1)) (i + 1) = rw (k, e) refl in
+    stored ls i 0 l v left ∙ q
 
 -- the length of line i
 pub length-at : (m : Model) (f n j i : ℕ) → i < n → getD (lengthsFrom m f n j) i 0 ≡ m .delay (j + i) + f
@@ -54,3 +70,47 @@ pub lengths-long : (m : Model) (f n j : ℕ) → length (lengthsFrom m f n j) �
 unfolding lengthsFrom
 lengths-long m f zero j = refl
 lengths-long m f (suc n) j = ap suc (lengths-long m f n (j + 1))
+
+-- each holds a frame, and is short enough for a ring
+pub lengths-hold : (m : Model) (f n j k : ℕ) → ((i : ℕ) → m .delay i ≤ 64512) → f ≤ 1024 → allFrom (λ i l. leb f l && leb l 65536) k (lengthsFrom m f n j) ≡ true
+unfolding lengthsFrom
+lengths-hold m f zero j k near h = refl
+lengths-hold m f (suc n) j k near h =
+    join-and (join-and (le-leb f (m .delay j + f) (omega arith)) (le-leb (m .delay j + f) 65536 (omega (arith, near j)))) (lengths-hold m f n (j + 1) (suc k) near h)
+
+-- a ring of those that hold a frame, and all of them
+pub holds-at : (f : ℕ) (ls : List ℕ) → ringsHold f ls ≡ true → (i : ℕ) → i < length ls → (f ≤ getD ls i 0) × (getD ls i 0 ≤ 65536)
+unfolding ringsHold
+holds-at f ls e i h =
+    let p = split-and _ _ (all-at (λ i l. leb f l && leb l 65536) ls 0 i 0 h e) in
+    (leb-true _ _ (p .0), leb-true _ _ (p .1))
+
+rings-short : (f k : ℕ) (ls : List ℕ) → allFrom (λ i l. leb f l && leb l 65536) k ls ≡ true → total ls ≤ 65536 * length ls
+unfolding total
+rings-short f k [] e = omega arith
+rings-short f k (l ∷ ls) e =
+    let p = split-and (leb f l && leb l 65536) (allFrom (λ i l. leb f l && leb l 65536) (suc k) ls) e in
+    let short : l ≤ 65536 = leb-true l 65536 (split-and (leb f l) (leb l 65536) (p .0) .1) in
+    omega (arith, short, rings-short f (suc k) ls (p .1))
+
+pub holds-all : (f : ℕ) (ls : List ℕ) → ringsHold f ls ≡ true → total ls ≤ 65536 * length ls
+unfolding ringsHold
+holds-all f ls e = rings-short f 0 ls e
+
+-- of the wall unit's lines
+pub wall-holds : (f : ℕ) → f ≤ 1024 → ringsHold f (lengthsOf wall f) ≡ true
+unfolding ringsHold
+wall-holds f h = lengths-hold wall f 16 0 0 (λ (i : ℕ). omega (arith, delay-range i)) h
+
+-- a test of the lengths that stands behind a test of the frame may take them for those of a frame in range
+pub in-range-lengths : (f : ℕ) (cs : List Cursors) (rate passes blank : Bool)
+    → ((rate && frameOk f) && ((cursorsIn (cond (frameOk f) (lengthsOf wall f) (replicate 16 0)) cs && passes) && blank))
+    ≡ ((rate && frameOk f) && ((cursorsIn (lengthsOf wall f) cs && passes) && blank))
+in-range-lengths f cs rate passes blank = go rate (frameOk f) refl
+  where
+    go : (a b : Bool) → frameOk f ≡ b
+        → ((a && b) && ((cursorsIn (cond b (lengthsOf wall f) (replicate 16 0)) cs && passes) && blank))
+        ≡ ((a && b) && ((cursorsIn (lengthsOf wall f) cs && passes) && blank))
+    go true true e = refl
+    go true false e = refl
+    go false b e = refl

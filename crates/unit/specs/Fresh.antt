@@ -7,7 +7,7 @@ use Rattle.samples.specs.Binary32.{+0}
 use Rattle.delay.specs.Calls.{both}
 use Rattle.iir.specs.declared.Filter.{Filter}
 use Rattle.iir.specs.Step.{fromCoefficients}
-use Rattle.unit.specs.Hall.{Hall}
+use Rattle.unit.specs.UnitState.{Held, UnitState}
 use Rattle.unit.specs.Model.{Model}
 use Rattle.unit.specs.Sizes.{filtersLen, jobsLen}
 
@@ -15,18 +15,22 @@ use Rattle.unit.specs.Sizes.{filtersLen, jobsLen}
 abbrev pub blank : Filter
 blank = fromCoefficients +0 +0 +0 +0 +0
 
--- "cursors, count and filters zero, no frame open"
-abbrev pub freshHall : Model → ℕ → ℕ → Hall
-freshHall m rate frame = record {
-  rate = rate;
-  frame = frame;
-  lines = replicate (m .lines) (both 0);
-  passes = replicate (length (m .passes)) (both 0);
-  count = pos 0;
-  filters = replicate (filtersLen m) blank;
+-- while no frame is open, "all that is held for one is blank: kind apply, no job marked, count 0, filters all +0"
+abbrev pub noFrame : Model → Held
+noFrame m = record {
   busy = false;
   tail = false;
   marks = replicate (jobsLen m) false;
   next = pos 0;
   before = replicate (filtersLen m) blank;
+}
+
+-- "cursors, count and filters zero, no frame open"
+abbrev pub freshUnit : Model → ℕ → ℕ → UnitState
+freshUnit m rate frame = record {
+  settings = record { rate = rate; frame = frame };
+  cursors = record { lines = replicate (m .lines) (both 0); passes = replicate (length (m .passes)) (both 0) };
+  count = pos 0;
+  filters = replicate (filtersLen m) blank;
+  held = noFrame m;
 }

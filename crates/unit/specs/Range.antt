@@ -10,18 +10,16 @@ use Rattle.samples.specs.Sizes.{rateOk, frameOk}
 use Rattle.delay.specs.declared.Cursors.{Cursors}
 use Rattle.iir.specs.declared.Filter.{Filter}
 use Rattle.iir.specs.Nine.{blankFilter}
-use Rattle.unit.specs.Hall.{Hall}
+use Rattle.unit.specs.UnitState.{UnitState}
 use Rattle.unit.specs.Model.{Model}
+use Rattle.unit.specs.Sizes.{lengths}
 
--- "every cursor is below its ring's length"
+-- "every cursor is below its ring's length": those of one ring, and of rings of the lengths ls
 unfoldable pub below : ℕ → Cursors → Bool
 below l c = ltb (c .read .0) l && ltb (c .write .0) l
 
-unfoldable pub linesOk : Model → ℕ → List Cursors → Bool
-linesOk m f cs = allFrom (λ i c. below (m .delay i + f) c) 0 cs
-
-unfoldable pub passesOk : Model → List Cursors → Bool
-passesOk m cs = allFrom (λ i c. below (getD (m .passes) i 0) c) 0 cs
+unfoldable pub cursorsIn : List ℕ → List Cursors → Bool
+cursorsIn ls cs = allFrom (λ i c. below (getD ls i 0) c) 0 cs
 
 abbrev pub isZero : ℤ → Bool
 isZero (pos zero) = true
@@ -35,12 +33,12 @@ unfoldable pub blankFilters : List Filter → Bool
 blankFilters fs = allFrom (λ k f. blankFilter f) 0 fs
 
 -- "all that is held for one is blank: kind apply, no job marked, count 0, filters all +0"
-unfoldable pub blankOpen : Hall → Bool
-blankOpen u = not (u .tail) && (isZero (u .next) && (unmarked (u .marks) && blankFilters (u .before)))
+unfoldable pub blankOpen : UnitState → Bool
+blankOpen u = not (u .held .tail) && (isZero (u .held .next) && (unmarked (u .held .marks) && blankFilters (u .held .before)))
 
 -- "It is in range when rate and F are, every cursor is below its ring's length, and, while no frame is open, all that is held for one is blank"
-unfoldable pub inRange : Model → Hall → Bool
+unfoldable pub inRange : Model → UnitState → Bool
 inRange m u =
-    (rateOk (u .rate) && frameOk (u .frame))
-    && ((linesOk m (u .frame) (u .lines) && passesOk m (u .passes))
-    && (u .busy || blankOpen u))
+    (rateOk (u .settings .rate) && frameOk (u .settings .frame))
+    && ((cursorsIn (lengths m u) (u .cursors .lines) && cursorsIn (m .passes) (u .cursors .passes))
+    && (u .held .busy || blankOpen u))

@@ -3,7 +3,7 @@ use Prim.Native.Nat.{ℕ, zero, suc, _+_, _*_}
 use mathlib.Core.Path.{_≡_}
 use mathlib.Core.List.{List, [], _∷_}
 use lib.ListN.{length}
-use Rattle.unit.specs.Hall.{Hall}
+use Rattle.unit.specs.UnitState.{UnitState}
 use Rattle.unit.specs.Model.{Model}
 
 -- "line i has length D[i mod 4] + F": the rings of n lines more, from line i on
@@ -11,16 +11,20 @@ unfoldable pub lengthsFrom : Model → ℕ → ℕ → ℕ → List ℕ
 lengthsFrom m f zero i = []
 lengthsFrom m f (suc n) i = (m .delay i + f) ∷ lengthsFrom m f n (i + 1)
 
-abbrev pub lineLengths : Model → ℕ → List ℕ
-lineLengths m f = lengthsFrom m f (m .lines) 0
+abbrev pub lengthsOf : Model → ℕ → List ℕ
+lengthsOf m f = lengthsFrom m f (m .lines) 0
+
+-- those of a unit
+abbrev pub lengths : Model → UnitState → List ℕ
+lengths m u = lengthsOf m (u .settings .frame)
 
 unfoldable pub total : List ℕ → ℕ
 total [] = 0
 total (l ∷ ls) = l + total ls
 
--- the store is the lines' rings, one after the other, and then the allpass rings: "exactly 7,600 + 16F floats"
-unfoldable pub storeLen : Model → ℕ → ℕ
-storeLen m f = total (lineLengths m f) + total (m .passes)
+-- the store is the lines' rings, of lengths ls, one after the other, and then the allpass rings: "exactly 7,600 + 16F floats"
+unfoldable pub storeLen : Model → List ℕ → ℕ
+storeLen m ls = total ls + total (m .passes)
 
 -- the work memory is rows of F floats, one for the input, one a line read, one a line mixed and one for the output, and then the
 -- allpass rings: "exactly 34F + 1,348"
@@ -40,9 +44,9 @@ abbrev pub jobsLen : Model → ℕ
 jobsLen m = m .lines + m .lines + 2
 
 -- the lists of a unit of model m are as long as the model says: a `State`'s are
-pub record Sized (m : Model) (u : Hall) : Type 0 where
-  pub lines : length (u .lines) ≡ m .lines
-  pub passes : length (u .passes) ≡ length (m .passes)
+pub record Sized (m : Model) (u : UnitState) : Type 0 where
+  pub lines : length (u .cursors .lines) ≡ m .lines
+  pub passes : length (u .cursors .passes) ≡ length (m .passes)
   pub filters : length (u .filters) ≡ filtersLen m
-  pub marks : length (u .marks) ≡ jobsLen m
-  pub before : length (u .before) ≡ filtersLen m
+  pub marks : length (u .held .marks) ≡ jobsLen m
+  pub before : length (u .held .before) ≡ filtersLen m

@@ -7,16 +7,23 @@ mod sizes;
 
 pub use range::in_range;
 pub use room::lent_ok;
+pub use room::rings_hold;
 pub use room::room_ok;
 pub use sizes::PASSES;
+pub use sizes::is_store;
+pub use sizes::lengths;
 pub use sizes::store_ok;
 pub use sizes::work_ok;
 ghost use mathlib.Core.Path.{_≡_};
-ghost use Rattle.unit.specs.Hall.{toState};
-ghost use Rattle.unit.specs.Fresh.{freshHall};
+ghost use Rattle.audio_buffer.specs.declared.AudioEffectState.the-variants.{TailComplete};
+ghost use Rattle.unit.specs.UnitState.{ofState, toState};
+ghost use Rattle.unit.specs.Outcome.{outcome};
+ghost use Rattle.unit.specs.Fresh.{freshUnit};
 ghost use Rattle.unit.specs.Model.{wall};
+use audio_buffer::AudioEffectState;
 use delay::Cursors;
 use iir::Filter;
+use samples::Answer;
 use samples::Frames;
 use samples::Samples;
 
@@ -39,7 +46,7 @@ pub struct State {
 
 // The state of a unit in which nothing has sounded yet.
 pub fn fresh_state(rate: u32, frame: usize) -> State
-    ensures { λ r. ⌜ r ≡ toState (freshHall wall rate frame) ⌝ }
+    ensures { λ r. ⌜ r ≡ toState (freshUnit wall rate frame) ⌝ }
 {
     let start = Cursors {
         read: Samples(0),
@@ -58,5 +65,23 @@ pub fn fresh_state(rate: u32, frame: usize) -> State
         marks: [false; 34],
         next: Frames(0),
         before: [blank; 51],
+    }
+}
+
+// What a call of the unit gives back: its answer, the verdict on the tail, and the state.
+pub struct Outcome {
+    pub answer: Answer,
+    pub verdict: AudioEffectState,
+    pub state: State,
+}
+
+// The outcome of a call that leaves no tail to wait for.
+pub fn quiet(answer: Answer, state: State) -> Outcome
+    ensures { λ r. ⌜ r ≡ outcome answer (ofState state) TailComplete ⌝ }
+{
+    Outcome {
+        answer,
+        verdict: AudioEffectState::TailComplete,
+        state,
     }
 }

@@ -1,6 +1,7 @@
 // When a state is in range.
 use crate::State;
 use crate::sizes::PASSES;
+use crate::sizes::lengths;
 use delay::Cursors;
 use iir::Filter;
 use samples::Frames;
@@ -9,11 +10,9 @@ use samples::frame_ok;
 use samples::rate_ok;
 ghost use mathlib.Core.Path.{_≡_};
 ghost use mathlib.Core.Bool.{_||_};
-ghost use Prim.Native.Nat.{_+_};
-ghost use lib.Dec.{ltb};
-ghost use Rattle.unit.specs.Hall.{ofState};
+ghost use Rattle.unit.specs.UnitState.{ofState};
 ghost use Rattle.unit.specs.Model.{wall};
-ghost use Rattle.unit.specs.Range.{below, linesOk, passesOk, isZero, unmarked, blankFilters, blankOpen, inRange};
+ghost use Rattle.unit.specs.Range.{below, cursorsIn, isZero, unmarked, blankFilters, blankOpen, inRange};
 
 // Whether a state is one that the unit's calls take.
 pub fn in_range(s: State) -> bool
@@ -26,7 +25,7 @@ pub fn in_range(s: State) -> bool
     and(
         and(rate_ok(rate), frame_ok(frame)),
         and(
-            and(lines_ok(lines, frame), passes_ok(passes)),
+            and(cursors_in(lengths(frame), lines), passes_ok(passes)),
             open_or_blank(s),
         ),
     )
@@ -54,26 +53,26 @@ fn blank_open(s: State) -> bool
     )
 }
 
-// Whether both cursors of each line are within its ring.
-pub(crate) fn lines_ok(cs: [Cursors; 16], frame: usize) -> bool
-    ensures { λ r. ⌜ r ≡ linesOk wall frame cs ⌝ }
-{
-    let mut ok = true;
-    for i in 0..16usize {
-        let c = cs[i];
-        ok = and(ok, below(c, primes::delay(i), frame));
-    }
-    ok
-}
-
 // Whether both cursors of each allpass ring are within it.
 pub(crate) fn passes_ok(cs: [Cursors; 4]) -> bool
-    ensures { λ r. ⌜ r ≡ passesOk wall cs ⌝ }
+    ensures { λ r. ⌜ r ≡ cursorsIn (wall .passes) cs ⌝ }
 {
     let mut ok = true;
     for i in 0..4usize {
         let c = cs[i];
-        ok = and(ok, below(c, PASSES[i], 0));
+        ok = and(ok, below(c, PASSES[i]));
+    }
+    ok
+}
+
+// Whether both cursors of each of sixteen rings are within it.
+pub(crate) fn cursors_in(ls: [usize; 16], cs: [Cursors; 16]) -> bool
+    ensures { λ r. ⌜ r ≡ cursorsIn ls cs ⌝ }
+{
+    let mut ok = true;
+    for i in 0..16usize {
+        let c = cs[i];
+        ok = and(ok, below(c, ls[i]));
     }
     ok
 }
@@ -102,20 +101,13 @@ fn blank_filters(fs: [Filter; 51]) -> bool
     ok
 }
 
-// Whether both cursors are below a length of `delay` and `frame`.
-fn below(c: Cursors, delay: usize, frame: usize) -> bool
-    ensures { λ r. ⌜ r ≡ below (delay + frame) c ⌝ }
+// Whether both cursors are below a length.
+fn below(c: Cursors, l: usize) -> bool
+    ensures { λ r. ⌜ r ≡ below l c ⌝ }
 {
     let read = c.read.0;
     let write = c.write.0;
-    and(less(read, delay, frame), less(write, delay, frame))
-}
-
-// Whether k is below a + b, a sum that may not fit.
-fn less(k: usize, a: usize, b: usize) -> bool
-    ensures { λ r. ⌜ r ≡ ltb k (a + b) ⌝ }
-{
-    if k < a { true } else { k - a < b }
+    and(read < l, write < l)
 }
 
 // Whether a count of frames is 0.

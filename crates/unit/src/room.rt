@@ -1,22 +1,21 @@
 // The memory and the rings that a frame asks.
-use crate::range::lines_ok;
+use crate::range::cursors_in;
 use crate::range::passes_ok;
+use crate::sizes::is_store;
 use crate::sizes::store_ok;
 use crate::sizes::work_ok;
 use delay::Cursors;
 use samples::and;
 use samples::frame_ok;
 ghost use mathlib.Core.Path.{_≡_};
-ghost use mathlib.Core.Bool.{_&&_};
-ghost use lib.Dec.{eqb};
 ghost use Rattle.unit.specs.Model.{wall};
-ghost use Rattle.unit.specs.Sizes.{storeLen, workLen};
-ghost use Rattle.unit.specs.Room.{roomOk};
+ghost use Rattle.unit.specs.Sizes.{lengthsOf};
+ghost use Rattle.unit.specs.Room.{ringsHold, lentFor, roomOk};
 
-// Whether the store, the work memory and the output have the lengths that frames of `frame` samples
-// ask.
+// Whether the store, the work memory and the output have the lengths that a unit of frames of `frame`
+// samples asks.
 pub fn lent_ok(frame: usize, store: usize, work: usize, output: usize) -> bool
-    ensures { λ r. ⌜ r ≡ (eqb store (storeLen wall frame) && (eqb work (workLen wall frame) && eqb output frame)) ⌝ }
+    ensures { λ r. ⌜ r ≡ lentFor wall frame (lengthsOf wall frame) store work output ⌝ }
 {
     and(
         store_ok(frame, store),
@@ -24,23 +23,41 @@ pub fn lent_ok(frame: usize, store: usize, work: usize, output: usize) -> bool
     )
 }
 
-// Whether a frame of `frame` samples can be played: on rings with these cursors, and in memory of
-// these lengths.
+// Whether rings of the lengths `ls` can hold a frame of `frame` samples, and none is too long for a
+// ring.
+pub fn rings_hold(frame: usize, ls: [usize; 16]) -> bool
+    ensures { λ r. ⌜ r ≡ ringsHold frame ls ⌝ }
+{
+    let mut ok = true;
+    for i in 0..16usize {
+        let l = ls[i];
+        ok = and(ok, and(frame <= l, l <= 65536));
+    }
+    ok
+}
+
+// Whether a frame of `frame` samples can be played: on lines of the lengths `ls` with the cursors `cs`,
+// on allpass rings with `qs`, and in memory of these lengths.
 pub fn room_ok(
     frame: usize,
-    lines: [Cursors; 16],
-    passes: [Cursors; 4],
+    ls: [usize; 16],
+    cs: [Cursors; 16],
+    qs: [Cursors; 4],
     store: usize,
     work: usize,
     output: usize,
 ) -> bool
-    ensures { λ r. ⌜ r ≡ roomOk wall frame lines passes store work output ⌝ }
+    ensures { λ r. ⌜ r ≡ roomOk wall frame ls cs qs store work output ⌝ }
 {
+    let rows = and(work_ok(frame, work), output == frame);
     and(
         frame_ok(frame),
         and(
-            and(lines_ok(lines, frame), passes_ok(passes)),
-            lent_ok(frame, store, work, output),
+            rings_hold(frame, ls),
+            and(
+                and(cursors_in(ls, cs), passes_ok(qs)),
+                and(is_store(ls, store), rows),
+            ),
         ),
     )
 }

@@ -10,12 +10,12 @@ use Rattle.judges.proofs.judge.Tie as tie
 returns : tie.Need-returns
 unfolding judged
 returns c =
-    let lengths = c .before in
-    let line = lengths .before in
+    let lent = c .before in
+    let line = lent .before in
     let turn = line .before in
     let a = turn .before .before .args in
     need-of BadState (c .need4 .ensures) (turn .before .in-range .ensures)
-    (need-of BadLength (lengths .need3 .ensures) (refl {a = a .lengths}) (need-of BadIndex (line .need2 .ensures) (refl {a = a .line}) (turn .need .ensures)))
+    (need-of BadLength (lent .need3 .ensures) (refl {a = a .lent}) (need-of BadIndex (line .need2 .ensures) (refl {a = a .line}) (turn .need .ensures)))
 
 pub judge-spec : {M : Type 1} → statement M
 judge-spec =

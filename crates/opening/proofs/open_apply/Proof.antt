@@ -2,23 +2,26 @@
 use borrow.Author.Needs.{needs}
 use denote.Ref.{now}
 use mathlib.Core.Path.{ap, _∙_}
-use mathlib.Core.Bool.{true, false, _&&_}
+use mathlib.Core.Bool.{false, _&&_}
 use lib.IntN.{pos}
-use lib.ListN.{length, replicate}
+use lib.ListN.{length}
 use Rattle.samples.proofs.Laws.{is-accepted}
 use Rattle.audio_buffer.specs.declared.AudioEffectState.the-variants.{TailComplete}
-use Rattle.bands.specs.declared.Counted.{Counted}
-use Rattle.unit.specs.Hall.{ofState}
+use Rattle.unit.specs.UnitState.{UnitState, ofState}
+use Rattle.unit.specs.Outcome.{outcome}
 use Rattle.unit.specs.Model.{wall}
+use Rattle.unit.specs.Sizes.{lengthsOf}
+use Rattle.unit.proofs.Outcomes.{refused, let-by}
 use Rattle.judges.specs.Judges.{storeOk, workOk}
-use Rattle.silence.specs.Silence.{outcome}
-use Rattle.silence.proofs.Outcomes.{old-left, new-left, let-by}
-use Rattle.reverb.proofs.WholeParts.{filters-given}
-use Rattle.turns.specs.Turns.{judgedOpenApply}
+use Rattle.judges.specs.Turns.{judgedOpenApply}
 use Rattle.judges.proofs.Fits.{given-of}
-use Rattle.turns.specs.Held.{holding}
-use Rattle.opening.specs.Play as Play
-use Rattle.opening.specs.Play.{opened, openWork}
+use Rattle.bands.specs.declared.Counted.{Counted}
+use Rattle.stages.specs.Frame.{passesIn}
+use Rattle.reverb.proofs.WholeParts.{filters-given}
+use Rattle.machine.specs.Ending.{Memory, lend}
+use Rattle.machine.specs.Whole as Play
+use Rattle.machine.specs.Jobs.{unitOpen, memoryOpened}
+use Rattle.machine.proofs.Ends.{quiet-refused, quiet-let-by}
 use Rattle.opening.proofs.Opened.{open-fits, open-long, laid-after}
 use Rattle.opening.proofs.open_apply.Statement.{statement}
 use Rattle.opening.proofs.open_apply.Tie as tie
@@ -28,14 +31,12 @@ returns c =
     let tested = c .before .before in
     let judged = tested .before in
     let a = judged .before .before .before .before .before .args in
-    let u = ofState (a .s) in
-    let b = judgedOpenApply wall u (a .t) (now (a .coefficients)) (now (a .input)) (length (now (a .store))) (length (now (a .work))) in
+    let w = lend (a .s) (now (a .store)) (now (a .work)) in
+    let p = Play.apply (a .t) (now (a .coefficients)) (now (a .input)) in
+    let due = judgedOpenApply wall (ofState (a .s)) (a .t) (now (a .coefficients)) (now (a .input)) (length (now (a .store))) (length (now (a .work))) in
     let e = judged .judge-open-apply .ensures in
-    let t = tested .is-accepted .ensures in
-    let h = c .before .if1 .taken in (
-      c .quiet .ensures ∙ (λ i. outcome (e i) (old-left _ b _ e t (opened wall u (Play.apply (a .t) (now (a .coefficients)) (now (a .input)))) u h i) TailComplete),
-      old-left _ b _ e t (openWork wall u (now (a .input)) (now (a .store))) (now (a .work)) h,
-    )
+    let q = quiet-refused due _ (memoryOpened wall w p) w _ e (refused _ due _ e (tested .is-accepted .ensures) (c .before .if1 .taken)) (c .quiet .ensures) in
+    (q .0, ap (λ (v : Memory). v .work) (q .1))
 
 begin-work-requires : tie.Need-begin-work-requires
 begin-work-requires c κs =
@@ -56,7 +57,7 @@ part-copy-end c =
     let begun = c .before .before in
     let a = begun .before .before .before .before .before .before .before .before .before .before .before .args in
     let e = begun .begin-work .ensures in
-    rw e (open-long (a .s .frame) (now (a .store)))
+    rw e (open-long (a .s .frame) (passesIn (lengthsOf wall (a .s .frame)) (now (a .store))))
 
 returns-2 : tie.Need-returns-2
 returns-2 c =
@@ -72,19 +73,19 @@ returns-2 c =
     let u = ofState (a .s) in
     let store = length (now (a .store)) in
     let work = length (now (a .work)) in
-    let b = judgedOpenApply wall u (a .t) (now (a .coefficients)) (now (a .input)) store work in
+    let w = lend (a .s) (now (a .store)) (now (a .work)) in
+    let p = Play.apply (a .t) (now (a .coefficients)) (now (a .input)) in
+    let due = judgedOpenApply wall u (a .t) (now (a .coefficients)) (now (a .input)) store work in
     let e = judged .judge-open-apply .ensures in
-    let t = tested .is-accepted .ensures in
-    let h = passed .if1 .left in
-    let g = given-of u (a .t) (now (a .coefficients)) (now (a .input)) (storeOk wall u store && workOk wall u work) (is-accepted b (let-by _ b _ e t h)) in
+    let through = let-by _ due _ e (tested .is-accepted .ensures) (passed .if1 .left) in
+    let g = given-of u (a .t) (now (a .coefficients)) (now (a .input)) (storeOk wall u store && workOk wall u work) (is-accepted due through) in
     let filters = filters-given (now (a .coefficients)) _ (g .given) (filtered .filters-of .ensures) in
     let count = ap (λ (n : Counted). n .count .0) (counted .tail-count .ensures) ∙ ap pos (g .count) in
-    let holds = ap ofState (made .opened .ensures) ∙ (λ i. holding u (filters i) true false (replicate 34 false) (count i) (u .filters)) in
-    let unit = holds ∙ new-left _ b _ e t (opened wall u (Play.apply (a .t) (now (a .coefficients)) (now (a .input)))) u h in
-    let begun′ = begun .begin-work .ensures in (
-      c .quiet2 .ensures ∙ (λ i. outcome (e i) (unit i) TailComplete),
-      laid-after (u .frame) (now (a .store)) (now (a .input)) _ _ (g .row) begun′ (copied .copy .ensures)
-          ∙ new-left _ b _ e t (openWork wall u (now (a .input)) (now (a .store))) (now (a .work)) h,
+    let unit = ap ofState (made .opened .ensures) ∙ (λ i. unitOpen wall u false (filters i) (count i)) in
+    let q = quiet-let-by due _ (memoryOpened wall w p) w _ e through (c .quiet2 .ensures ∙ ap (λ (v : UnitState). outcome (judged .judge-open-apply .result) v TailComplete) unit) in (
+      q .0,
+      laid-after (u .settings .frame) (passesIn (lengthsOf wall (u .settings .frame)) (now (a .store))) (now (a .input)) _ _ (g .row) (begun .begin-work .ensures) (copied .copy .ensures)
+          ∙ ap (λ (v : Memory). v .work) (q .1),
     )
 
 pub open-apply-spec : {M : Type 1} → statement M

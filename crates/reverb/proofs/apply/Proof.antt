@@ -1,19 +1,22 @@
 -- `reverb::apply` meets its contract. Assumes nothing.
 use borrow.Author.Needs.{needs}
 use mathlib.Core.Path.{_≡_, ap, _∙_}
-use mathlib.Core.Bool.{true}
+use mathlib.Core.Bool.{true, false}
 use lib.IntN.{pos}
 use lib.ListN.{length}
 use denote.Ref.{now}
 use Rattle.samples.specs.Answers.{accepted}
 use Rattle.bands.specs.declared.Counted.{Counted}
-use Rattle.unit.specs.Hall.{ofState}
+use Rattle.unit.specs.UnitState.{ofState}
 use Rattle.unit.specs.Model.{wall}
 use Rattle.judges.specs.Judges.{judgedApply}
-use Rattle.reverb.specs.Whole.{applyFrame, applyCount}
+use Rattle.stages.specs.Frame.{frameOf}
+use Rattle.machine.specs.Ending.{lend}
+use Rattle.machine.specs.Whole as Play
+use Rattle.machine.proofs.Ends.{ends-refused}
 use Rattle.judges.proofs.Fits.{ApplyFits, apply-fits}
-use Rattle.silence.proofs.Outcomes.{refused, let-by}
-use Rattle.reverb.proofs.WholeParts.{begun, filters-given, one-frame, all-as-was, as-frame}
+use Rattle.unit.proofs.Outcomes.{refused, let-by}
+use Rattle.reverb.proofs.WholeParts.{begun, filters-given, as-call}
 use Rattle.samples.proofs.Laws.{is-accepted}
 use Rattle.reverb.proofs.apply.Statement.{statement}
 use Rattle.reverb.proofs.apply.Tie as tie
@@ -21,10 +24,10 @@ use Rattle.reverb.proofs.apply.Reads as reads
 use Rattle.reverb.proofs.apply.Lts as lts
 use Rattle.judges.proofs.judge_apply.Reads as judge-apply-reads
 use Rattle.samples.proofs.is_accepted.Reads as is-accepted-reads
-use Rattle.silence.proofs.quiet.Reads as quiet-reads
+use Rattle.unit.proofs.quiet.Reads as quiet-reads
 use Rattle.bands.proofs.tail_count.Reads as tail-count-reads
-use Rattle.filters.proofs.filters_of.Reads as filters-of-reads
-use Rattle.frame.proofs.copy.Reads as copy-reads
+use Rattle.reverb.proofs.filters.filters_of.Reads as filters-of-reads
+use Rattle.stages.proofs.copy.Reads as copy-reads
 use Rattle.reverb.proofs.units.whole_frame.Reads as whole-frame-reads
 
 returns : tie.Need-returns
@@ -32,11 +35,9 @@ returns c =
     let tested = c .before .before in
     let judged = tested .before in
     let a = judged .before .before .before .before .before .before .args in
-    let u = ofState (a .s) in
-    let due = judgedApply wall u (a .t) (now (a .coefficients)) (now (a .input)) (length (now (a .store))) (length (now (a .work))) (length (now (a .output))) in
+    let due = judgedApply wall (ofState (a .s)) (a .t) (now (a .coefficients)) (now (a .input)) (length (now (a .store))) (length (now (a .work))) (length (now (a .output))) in
     let e = judged .judge-apply .ensures in
-    let shut = refused _ due _ e (tested .is-accepted .ensures) (c .before .if1 .taken) in
-    all-as-was u due _ (applyFrame wall u (now (a .coefficients)) (now (a .input)) (now (a .store))) (applyCount u (a .t)) _ (now (a .store)) (now (a .work)) (now (a .output)) shut e (c .quiet .ensures)
+    ends-refused due _ _ (lend (a .s) (now (a .store)) (now (a .work))) (now (a .output)) _ (refused _ due _ e (tested .is-accepted .ensures) (c .before .if1 .taken)) e (c .quiet .ensures)
 
 -- a call that the judgement has let by
 abbrev Passed : Type 0
@@ -95,11 +96,13 @@ returns-2 c =
     let a = p .before .before .before .before .before .before .before .before .args in
     let u = ofState (a .s) in
     let h = fits p in
-    let b = begun (u .frame) (now (a .input)) (now (a .work)) _ (h .what .row) (h .holds) (copied .copy .ensures) in
-    let r = one-frame u _ _ _ _ (now (a .store)) (filters-given (now (a .coefficients)) _ (h .what .given) (filtered .filters-of .ensures)) (b .0) in
+    let b = begun (u .settings .frame) (now (a .input)) (now (a .work)) _ (h .what .row) (h .holds) (copied .copy .ensures) in
+    let filters = filters-given (now (a .coefficients)) _ (h .what .given) (filtered .filters-of .ensures) in
     let count = ap (λ (n : Counted). n .count .0) (counted .tail-count .ensures) ∙ ap pos (h .what .count) in
+    let due = judgedApply wall u (a .t) (now (a .coefficients)) (now (a .input)) (length (now (a .store))) (length (now (a .work))) (length (now (a .output))) in
     let g = ran .whole-frame .ensures in
-    as-frame u _ _ _ _ _ _ (now (a .store)) _ (now (a .work)) _ (now (a .output)) _ _ (through p) r count (b .1) (g .0) (g .1 .0) (g .1 .1 .0) (g .1 .1 .1)
+    as-call (a .s) (Play.apply (a .t) (now (a .coefficients)) (now (a .input))) due _ _ (now (a .store)) _ (now (a .work)) (now (a .output)) _ _ _ _ (through p)
+    (λ i. frameOf wall false u (filters i) (b .0 i) (now (a .store))) count (b .1) (g .0, (g .1 .0, (g .1 .1 .0, g .1 .1 .1)))
 
 pub apply-spec : {M : Type 1} → statement M
 apply-spec =

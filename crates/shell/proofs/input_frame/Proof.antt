@@ -5,7 +5,7 @@ use mathlib.Core.Path.{_≡_, ap}
 use lib.ListN.{length, replicate}
 use denote.Ref.{now}
 use Rattle.samples.specs.Binary32.{+0}
-use Rattle.unit.specs.Hall.{ofState}
+use Rattle.unit.specs.UnitState.{ofState}
 use Rattle.reverb.specs.Whole.{applyCount}
 use Rattle.shell.specs.Settings.{storeFloats, workFloats}
 use Rattle.shell.specs.Frames.{inputDue, inputFrame}

@@ -5,7 +5,7 @@ use mathlib.Core.Path.{_≡_, refl}
 use lib.ListN.{length, replicate}
 use denote.Ref.{now}
 use Rattle.samples.specs.Binary32.{+0}
-use Rattle.unit.specs.Hall.{ofState}
+use Rattle.unit.specs.UnitState.{ofState}
 use Rattle.unit.specs.Model.{wall}
 use Rattle.reverb.specs.Whole.{tailFrame}
 use Rattle.shell.specs.Settings.{storeFloats, workFloats}

@@ -4,9 +4,9 @@ use mathlib.Core.Path.{ap, _∙_}
 use Rattle.samples.specs.declared.Answer.the-variants.{Accepted, NotFinite}
 use Rattle.audio_buffer.specs.declared.AudioEffectState.the-variants.{TailComplete}
 use Rattle.unit.specs.declared.State.{State}
-use Rattle.unit.specs.Hall.{ofState}
-use Rattle.silence.specs.Silence.{outcome}
-use Rattle.silence.proofs.Outcomes.{when, when-not}
+use Rattle.unit.specs.UnitState.{ofState}
+use Rattle.unit.specs.Outcome.{outcome}
+use Rattle.unit.proofs.Outcomes.{when, when-not}
 use Rattle.closing.proofs.ends.concluded.Statement.{statement}
 use Rattle.closing.proofs.ends.concluded.Tie as tie
 

@@ -6,7 +6,7 @@ use mathlib.Core.Path.{refl, _∙_}
 use Prim.Native.Nat.{_+_, _-_, _*_}
 use lib.ListN.{take, drop}
 use denote.Ref.{now}
-use Rattle.frame.specs.Lines.{sumRows}
+use Rattle.stages.specs.Lines.{sumRows}
 use Rattle.outputs.proofs.SumTurns.{Summing, cleared-long, sum-holds, sum-turn, sum-done, sum-of}
 use Rattle.outputs.proofs.sums.sum_lines.Statement.{statement}
 use Rattle.outputs.proofs.sums.sum_lines.Tie as tie

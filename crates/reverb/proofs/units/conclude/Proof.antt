@@ -1,7 +1,7 @@
 -- `reverb::units::conclude` meets its contract. Assumes nothing.
 use borrow.Author.Needs.{needs}
 use Rattle.samples.specs.declared.Answer.the-variants.{Accepted}
-use Rattle.silence.proofs.Outcomes.{when, when-not}
+use Rattle.unit.proofs.Outcomes.{when, when-not}
 use Rattle.reverb.proofs.units.conclude.Statement.{statement}
 use Rattle.reverb.proofs.units.conclude.Tie as tie
 

@@ -4,8 +4,8 @@ use borrow.Author.Needs.{needs}
 use native.Mathlib.Omega.{arith}
 use Prim.Native.Nat.{_+_, _*_, _-_, _≤_}
 use lib.ListN.{length}
-use Rattle.frame.specs.Lines.{bandEnds}
-use Rattle.frame.proofs.RowLaws.{byBands}
+use Rattle.stages.specs.Lines.{bandEnds}
+use Rattle.stages.proofs.RowLaws.{byBands}
 use Rattle.rows.proofs.Ways.{done-within}
 use Rattle.samples.proofs.Rows.{rows-fit, row-fits}
 use Rattle.rows.proofs.BandTurns.{Filtering, band-start, four-turn, one-turn, band-done}

@@ -3,7 +3,7 @@ use mathlib.Core.Path.{refl, ap, _∙_}
 use borrow.Author.Tests.{le-leb, lt-leb}
 use Rattle.samples.specs.Lists.{over}
 use Rattle.iir.specs.declared.Bands.{Bands}
-use Rattle.frame.specs.Lines.{threeOf}
+use Rattle.stages.specs.Lines.{threeOf}
 use borrow.Author.Needs.{needs}
 use Rattle.rows.proofs.filters.three_at.Statement.{statement}
 use Rattle.rows.proofs.filters.three_at.Tie as tie

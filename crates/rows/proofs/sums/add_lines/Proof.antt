@@ -7,7 +7,7 @@ use mathlib.Core.List.{_++_}
 use Prim.Native.Nat.{_≤_, _+_, _-_, _*_}
 use native.Mathlib.Nat.{sub-zero}
 use lib.ListN.{length, take, drop}
-use Rattle.frame.specs.Lines.{addRows}
+use Rattle.stages.specs.Lines.{addRows}
 use Rattle.samples.proofs.Rows.{all-left, row-fits}
 use Rattle.rows.proofs.SumTurns.{Adding, add-turn, add-done}
 use Rattle.rows.proofs.sums.add_lines.Statement.{statement}

@@ -1,15 +1,13 @@
 -- `unit::range::passes_ok` meets its contract. The invariant: the first i are tested. Assumes nothing.
 use borrow.Author.Needs.{needs}
 use native.Mathlib.Omega.{arith}
-use mathlib.Core.Path.{_≡_, refl, ap, _∙_}
-use Prim.Native.Nat.{ℕ, _-_, _≤_}
+use mathlib.Core.Path.{_≡_, refl}
+use Prim.Native.Nat.{_-_, _≤_}
 use lib.ListN.{take, getD}
 use Rattle.samples.specs.Lists.{allFrom}
 use Rattle.samples.proofs.Laws.{all-more, all-end}
-use native.Mathlib.Nat.{add-zero}
-use Rattle.delay.specs.Calls.{both}
 use Rattle.unit.specs.Model.{wall}
-use Rattle.unit.specs.Range.{below, passesOk}
+use Rattle.unit.specs.Range.{below, cursorsIn}
 use Rattle.unit.proofs.range.passes_ok.Statement.{statement}
 use Rattle.unit.proofs.range.passes_ok.Tie as tie
 
@@ -26,10 +24,10 @@ loop-again : tie.Need-loop-again Inv-loop μ-loop
 loop-again c =
     let at = c .before .before .before .before in
     let xs = at .before .args .t1 in
-    (omega arith, all-more _ xs (at .loop .i) _ _ _ _ (search needs) (at .loop .inv .1) (c .before .below .ensures ∙ ap (λ (l : ℕ). below l (getD xs (at .loop .i) (both 0))) (add-zero (getD (wall .passes) (at .loop .i) 0))) (c .and .ensures))
+    (omega arith, all-more _ xs (at .loop .i) _ _ _ _ (search needs) (at .loop .inv .1) (c .before .below .ensures) (c .and .ensures))
 
 returns : tie.Need-returns Inv-loop μ-loop
-unfolding passesOk
+unfolding cursorsIn
 returns c = let at = c .before in all-end _ (at .before .args .t1) (at .loop .i) _ (at .loop .inv .1) (search needs)
 
 pub passes-ok-spec : {M : Type 1} → statement M

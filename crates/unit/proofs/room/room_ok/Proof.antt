@@ -1,5 +1,6 @@
 -- `unit::room::room_ok` meets its contract. Assumes nothing.
 use borrow.Author.Needs.{needs}
+use mathlib.Core.Path.{refl}
 use Rattle.samples.proofs.Laws.{and-of}
 use Rattle.unit.specs.Room.{roomOk}
 use Rattle.unit.proofs.room.room_ok.Statement.{statement}
@@ -8,16 +9,26 @@ use Rattle.unit.proofs.room.room_ok.Tie as tie
 returns : tie.Need-returns
 unfolding roomOk
 returns c =
-    let lent = c .before .before in
-    let passes = lent .before .before in
+    let memory = c .before .before .before in
+    let cursors = memory .before .before in
+    let passes = cursors .before in
     let lines = passes .before in
-    and-of (c .and3 .ensures) (lines .before .frame-ok .ensures)
-    (and-of (c .before .and2 .ensures) (and-of (lent .before .and .ensures) (lines .lines-ok .ensures) (passes .passes-ok .ensures)) (lent .lent-ok .ensures))
+    let rings = lines .before in
+    let rows = rings .before .before in
+    and-of (c .and6 .ensures) (rings .before .frame-ok .ensures)
+    (and-of (c .before .and5 .ensures) (rings .rings-hold .ensures)
+    (and-of (c .before .before .and4 .ensures) (and-of (cursors .and2 .ensures) (lines .cursors-in .ensures) (passes .passes-ok .ensures))
+    (and-of (memory .and3 .ensures) (memory .before .is-store .ensures) (and-of (rows .and .ensures) (rows .before .work-ok .ensures) refl))))
 
 pub room-ok-spec : {M : Type 1} → statement M
 room-ok-spec =
     tie.close
     (tie.spec
+    (λ c κs. search needs)
+    (λ c κs. search needs)
+    (λ c κs. search needs)
+    (λ c κs. search needs)
+    (λ c κs. search needs)
     (λ c κs. search needs)
     (λ c κs. search needs)
     (λ c κs. search needs)

@@ -1,0 +1,109 @@
+-- From room for a frame to what its steps ask of the memory lent. Assumes nothing.
+use mathlib.Core.Path.{_≡_, refl, sym, ap, _∙_}
+use mathlib.Core.Bool.{Bool, true, _&&_}
+use mathlib.Core.List.{List}
+use Prim.Native.Nat.{ℕ, zero, suc, _+_, _*_, _≤_, _<_}
+use native.Mathlib.Nat.{zero-add}
+use native.Mathlib.Omega.{arith}
+use lib.Dec.{eqb}
+use lib.Ieee.{Float}
+use lib.ListN.{length, getD, take, drop}
+use lib.Seq.{take-all}
+use borrow.Author.Tests.{eqb-true}
+use Rattle.samples.specs.Sizes.{frameOk}
+use Rattle.samples.proofs.Laws.{split-and, frame-of}
+use Rattle.delay.specs.declared.Cursors.{Cursors}
+use Rattle.delay.specs.Calls.{both}
+use Rattle.iir.specs.declared.Filter.{Filter}
+use Rattle.unit.specs.Model.{wall}
+use Rattle.unit.specs.Sizes.{total, storeLen, workLen}
+use Rattle.unit.specs.Range.{cursorsIn}
+use Rattle.unit.specs.Room.{ringsHold, roomOk}
+use Rattle.unit.proofs.Ranges.{Below, cursors-at, holds-at}
+use Rattle.rows.proofs.RowsOf.{work-parts}
+use Rattle.stages.specs.Frame.{Frame, frameFrom, frameIn}
+use Rattle.stages.proofs.RowLaws.{total-more}
+use Rattle.frame.specs.Work.{Rings, Within, WholeFits, frameBy}
+
+-- rings that hold a frame, with their cursors within them
+module _ (f : ℕ) (ls : List ℕ) (cs : List Cursors) (some : 0 < f) (hold : ringsHold f ls ≡ true) (all : cursorsIn ls cs ≡ true) where
+  line-at : (i : ℕ) → i < length ls → Below (getD ls i 0) (getD cs i (both 0))
+  line-at i h = cursors-at ls cs all i (omega (arith, holds-at f ls hold i h .0))
+
+  pub lines-within : (n i : ℕ) → i + n ≡ length ls → Within n i ls cs
+  lines-within zero i e = tt
+  lines-within (suc n) i e =
+      let b = line-at i (omega arith) in
+      (holds-at f ls hold i (omega arith) .1, b .read, b .write, lines-within n (i + 1) (omega arith))
+
+  pub rings-of : (n i a len : ℕ) → i + n ≡ length ls → a + total (take n (drop i ls)) ≤ len → Rings f n i a ls cs len
+  unfolding total
+  rings-of zero i a len e h = tt
+  rings-of (suc n) i a len e h =
+      let b = line-at i (omega arith) in
+      let l = holds-at f ls hold i (omega arith) in
+      let k = total-more n i ls in
+      (l .0, l .1, b .read, b .write, omega (arith, k, h), rings-of n (i + 1) (a + getD ls i 0) len (omega arith) (omega (arith, k, h)))
+
+passes-within : (cs : List Cursors) → cursorsIn (wall .passes) cs ≡ true → Within 4 0 (wall .passes) cs
+passes-within cs e =
+    let b : (i : ℕ) → 0 < getD (wall .passes) i 0 → Below (getD (wall .passes) i 0) (getD cs i (both 0)) = cursors-at (wall .passes) cs e in
+    let b0 = b 0 (omega arith) in
+    let b1 = b 1 (omega arith) in
+    let b2 = b 2 (omega arith) in
+    let b3 = b 3 (omega arith) in
+    (omega arith, b0 .read, b0 .write, (omega arith, b1 .read, b1 .write, (omega arith, b2 .read, b2 .write, (omega arith, b3 .read, b3 .write, tt))))
+
+-- ---- the sizes by their parts
+
+pub passes-small : total (wall .passes) ≤ 65536
+unfolding total
+passes-small = omega arith
+
+-- sixteen lines are all that the wall unit has
+pub every-line : (ls : List ℕ) → length ls ≡ 16 → take 16 ls ≡ ls
+every-line ls e = take-all 16 ls (omega (arith, e))
+
+store-parts : (ls : List ℕ) (store : ℕ) → length ls ≡ 16 → store ≡ storeLen wall ls → store ≡ total (take 16 ls) + total (wall .passes)
+unfolding storeLen
+store-parts ls store long e = rw (every-line ls long) e
+
+pub room-fits : (f : ℕ) (ls : List ℕ) (cs qs : List Cursors) (store work output : ℕ) → length ls ≡ 16 → roomOk wall f ls cs qs store work output ≡ true
+    → WholeFits wall f ls cs qs store work output
+unfolding roomOk
+room-fits f ls cs qs store work output long e =
+    let lent = eqb store (storeLen wall ls) && (eqb work (workLen wall f) && eqb output f) in
+    let p = split-and (frameOk f) _ e in
+    let h = split-and (ringsHold f ls) _ (p .1) in
+    let q = split-and (cursorsIn ls cs && cursorsIn (wall .passes) qs) lent (h .1) in
+    let c = split-and (cursorsIn ls cs) (cursorsIn (wall .passes) qs) (q .0) in
+    let l = split-and (eqb store (storeLen wall ls)) _ (q .1) in
+    let g = split-and (eqb work (workLen wall f)) (eqb output f) (l .1) in
+    let parts = store-parts ls store long (eqb-true _ _ (l .0)) in
+    let d = frame-of f (p .0) in
+    let some : 0 < f = omega (arith, d .lo) in
+    record {
+      every = long;
+      fits = record {
+        few = omega arith;
+        some = omega arith;
+        frame = some;
+        small = omega (arith, d .hi);
+        fours = d .fours;
+        rings = rings-of f ls cs some (h .0) (c .0) 16 0 0 store (omega (arith, long)) (omega (arith, parts));
+        passes = passes-small;
+        four = refl;
+        store-is = parts;
+        work-is = work-parts f work (eqb-true _ _ (g .0));
+      };
+      lines = lines-within f ls cs some (h .0) (c .0) 16 0 (omega (arith, long));
+      passes = passes-within qs (c .1);
+      short = d .hi;
+      out = eqb-true _ _ (g .1);
+    }
+
+-- the frame of sixteen lines, the wall unit's factor and its divisor is the wall unit's
+pub frame-wall : (f : ℕ) (tail : Bool) (ls : List ℕ) (cs qs : List Cursors) (fs : List Filter) (input store : List Float) → length ls ≡ 16
+    → frameBy 16 f (wall .factor) (wall .divisor) tail ls cs (wall .passes) qs fs input store ≡ frameIn wall f ls tail cs qs fs input store
+unfolding frameFrom
+frame-wall f tail ls cs qs fs input store e = rw (every-line ls e) refl

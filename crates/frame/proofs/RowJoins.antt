@@ -1,0 +1,157 @@
+-- How the steps of a frame join in the work memory: what each is lent, what comes back, and what all of it is then. Assumes nothing.
+use mathlib.Core.Path.{_≡_, refl, sym, ap, _∙_}
+use mathlib.Core.Bool.{Bool, true}
+use mathlib.Core.List.{List, _++_, append-assoc}
+use Prim.Native.Nat.{ℕ, _+_, _*_, _-_, _<_, _≤_}
+use native.Mathlib.Nat.{add-zero}
+use native.Mathlib.Omega.{arith}
+use lib.Ieee.{Float}
+use lib.ListN.{length, getD, take, drop, length-append, length-take, length-drop}
+use lib.Seq.{take-at, take-take, take-add, getD-drop, getD-append-add, drop-at, drop-drop, length-take-le}
+use borrow.Rule.Slice.PartMut.{putMid}
+use Rattle.samples.specs.Lists.{over}
+use Rattle.samples.proofs.Turns.{back}
+use Rattle.samples.proofs.Lists.{drop-two, part-long, lent-long, first-part, last-part, to-end, over-at}
+use Rattle.delay.specs.declared.Cursors.{Cursors}
+use Rattle.unit.specs.Sizes.{total}
+use Rattle.iir.specs.declared.Filter.{Filter}
+use Rattle.stages.specs.Lines.{noFilter, readRows}
+use Rattle.stages.specs.Frame.{lineRows, outputRow, newFilters}
+use Rattle.stages.specs.Steps.{copied}
+use Rattle.stages.proofs.RowLaws.{copied-all}
+use Rattle.stages.proofs.FrameLaws.{put-beside}
+use Rattle.rows.specs.Fits.{outputFits}
+use Rattle.rows.specs.Steps.{linesEnds, linesLaid}
+use Rattle.rows.proofs.RowFits.{lines-yes, output-yes}
+use Rattle.rows.proofs.RowJoins.{filters-long}
+use Rattle.outputs.specs.Steps.{outputFrom, outputMade, outputAfter}
+use Rattle.frame.specs.Work.{FrameFits, frameBy, framed}
+
+-- ---- step 5 where the lines' filters are those after step 4: it looks at the others alone
+
+module _ (n : ℕ) (lines fs : List Filter) (l : length lines ≡ 3 * n) where
+  abbrev between : List Filter
+  between = lines ++ drop (3 * n) fs
+
+  later : (j : ℕ) → getD between (3 * n + j) noFilter ≡ getD fs (3 * n + j) noFilter
+  later j = rw (← l) (getD-append-add lines (drop (length lines) fs) j noFilter ∙ getD-drop (length lines) fs j noFilter)
+
+  filters-join : (tone : List Filter) → length tone ≡ 3 → over (3 * n) tone between ≡ (lines ++ tone) ++ drop (3 * n + 3) fs
+  filters-join tone e =
+      over-at tone (3 * n) lines (drop (3 * n) fs) l ∙ rw (e, drop-drop 3 (3 * n) fs) (sym (append-assoc lines tone (drop (3 * n + 3) fs)))
+
+  module _ (f : ℕ) (d : Float) (ps : List ℕ) (qs : List Cursors) where
+    output-same : (rings reads : List Float) → outputRow n f d ps qs between rings reads ≡ outputRow n f d ps qs fs rings reads
+    unfolding outputRow
+    output-same rings reads = rw (rw add-zero at (later 0), later 1, later 2) refl
+
+    tone-long : (rings reads : List Float) → length (outputRow n f d ps qs fs rings reads .filters) ≡ 3
+    unfolding outputRow
+    tone-long rings reads = refl
+
+    -- after the input lie the rows read, those to put, the output row as it was, and the rings
+    tone-join : (gs hs : List Filter) (w x input reads put old rings : List Float)
+        → length input ≡ f → length reads ≡ n * f → length put ≡ n * f → length old ≡ f → w ≡ input ++ ((reads ++ put) ++ (old ++ rings))
+        → let p = take (length w - f) (drop f w) in
+        let s = outputRow n f d ps qs gs (drop (n * f + n * f + f) p) (take (n * f) p) in
+        let r = outputRow n f d ps qs fs rings reads in
+        gs ≡ between → (hs ≡ over (3 * n) (s .filters) gs) × (x ≡ take (n * f + n * f) p ++ (s .out ++ s .rings))
+        → (hs ≡ (lines ++ r .filters) ++ drop (3 * n + 3) fs) × (putMid f (length w - f) w x ≡ input ++ (reads ++ (put ++ (r .out ++ r .rings))))
+    tone-join gs hs w x input reads put old rings li lr lp lo ew eg e =
+        let m = n * f in
+        let rows = (reads ++ put) ++ (old ++ rings) in
+        let r = outputRow n f d ps qs fs rings reads in
+        let l₂ : length (reads ++ put) ≡ m + m = rw length-append (omega arith) in
+        let q = last-part f input rows w ew li in
+        let read : take m rows ≡ reads = rw append-assoc (take-at reads (put ++ (old ++ rings)) m lr) in
+        let two : take (m + m) rows ≡ reads ++ put = take-at (reads ++ put) (old ++ rings) (m + m) l₂ in
+        let left : drop (m + m + f) rows ≡ rings = drop-two (reads ++ put) old rings (m + m + f) (omega (arith, l₂, lo)) in
+        let same = output-same rings reads in (
+          e .0 ∙ rw (q .0, read, left, eg, same) (filters-join (r .filters) (tone-long rings reads)),
+          q .1 x ∙ rw (e .1, q .0, read, two, left, eg, same, append-assoc) refl,
+        )
+
+-- ---- the rows read, over the first of those after the input, and then steps 3 and 4
+
+pub lines-join : (n f : ℕ) (k : Float) (tail : Bool) (fs gs : List Filter) (rows reads x w : List Float) → 0 < n → n ≤ 16 → f ≤ 65536
+    → length rows ≡ f + n * f + n * f → length x ≡ length (take (f + n * f - f) (drop f rows)) → x ≡ reads
+    → let w₁ = putMid f (f + n * f - f) rows x in
+    (gs ≡ linesEnds n f k tail fs w₁) × (w ≡ linesLaid n f k tail fs w₁)
+    → let r = lineRows n f k tail fs (take f rows) reads in
+    (gs ≡ r .filters ++ drop (3 * n) fs) × (w ≡ take f rows ++ (reads ++ r .put))
+unfolding linesEnds linesLaid
+lines-join n f k tail fs gs rows reads x w some few small l kept ex e =
+    let m = n * f in
+    let input = take f rows in
+    let lx : length x ≡ m = kept ∙ lent-long f rows m (omega arith) in
+    let w₁ = putMid f (f + m - f) rows x in
+    let w₁-is : w₁ ≡ input ++ (x ++ drop (f + m) rows) = back f m rows x in
+    let li : length input ≡ f = length-take-le f rows (omega arith) in
+    let lw : length w₁ ≡ f + m + m = ap length w₁-is ∙ simp (length-append, length-drop) (omega arith) in
+    let first : take f w₁ ≡ input = ap (take f) w₁-is ∙ take-at input (x ++ drop (f + m) rows) f li in
+    let next : take m (drop f w₁) ≡ reads = ap (λ (v : List Float). take m (drop f v)) w₁-is ∙ ap (take m) (drop-at input (x ++ drop (f + m) rows) f li) ∙ take-at x (drop (f + m) rows) m lx ∙ ex in
+    let yes = lines-yes n f (length w₁) some few small lw in
+    (e .0 ∙ rw (yes, first, next) refl, e .1 ∙ rw (yes, first, next) refl)
+
+-- ---- step 5 on rows that fit
+
+output-done : (n f : ℕ) (d : Float) (ps : List ℕ) (qs : List Cursors) (gs hs : List Filter) (p x : List Float) → outputFits n f ps (length p) ≡ true
+    → let s = outputFrom n f d ps qs gs p in
+    (hs ≡ outputAfter n f d ps qs gs p) × (x ≡ outputMade n f d ps qs gs p)
+    → (hs ≡ over (3 * n) (s .filters) gs) × (x ≡ take (n * f + n * f) p ++ (s .out ++ s .rings))
+unfolding outputAfter outputMade
+output-done n f d ps qs gs hs p x e q = rw e at q
+
+-- ---- a whole frame
+
+-- the end of the store over the end of the work memory
+pub copy-join : (t b : ℕ) (store work x : List Float) → t ≤ length store → length work ≡ b + (length store - t)
+    → let a = length store - (length work - b) in
+    x ≡ copied (take (length store - a) (drop a store)) (take (length work - b) (drop b work))
+    → putMid b (length work - b) work x ≡ take b work ++ drop t store
+copy-join t b store work x h l ex =
+    let a : length store - (length work - b) ≡ t = omega arith in
+    let dst = to-end b work (omega arith) in
+    let same : length (drop t store) ≡ length (drop b work) = rw (length-drop, length-drop) (omega arith) in
+    dst .1 x ∙ rw (ex, a, to-end t store h .0, dst .0, copied-all (drop t store) (drop b work) same) refl
+
+pub frame-join : (n f : ℕ) (k d : Float) (tail : Bool) (ls : List ℕ) (cs : List Cursors) (ps : List ℕ) (qs : List Cursors) (fs gs hs : List Filter)
+    (store work x x₁ x₂ : List Float) → FrameFits n f ls cs ps (length store) (length work)
+    → let at = f + n * f + n * f in
+    let b = at + f in
+    let a = length store - (length work - b) in
+    let w = putMid b (length work - b) work x in
+    let q = take (at - 0) (drop 0 w) in
+    let w₁ = putMid 0 (at - 0) w x₁ in
+    let p = take (length w₁ - f) (drop f w₁) in
+    let r = frameBy n f k d tail ls cs ps qs fs (take f work) store in
+    let lines = lineRows n f k tail fs (take f q) (r .reads) in
+    x ≡ copied (take (length store - a) (drop a store)) (take (length work - b) (drop b work))
+    → length x₁ ≡ length q → (gs ≡ lines .filters ++ drop (3 * n) fs) × (x₁ ≡ take f q ++ (r .reads ++ lines .put))
+    → (hs ≡ outputAfter n f d ps qs gs p) × (x₂ ≡ outputMade n f d ps qs gs p)
+    → (hs ≡ newFilters r ++ drop (3 * n + 3) fs) × (putMid f (length w₁ - f) w₁ x₂ ≡ framed (take f work) r)
+unfolding framed
+frame-join n f k d tail ls cs ps qs fs gs hs store work x x₁ x₂ fits e₀ kept e₁ e₂ =
+    let at = f + n * f + n * f in
+    let t = total (take n ls) in
+    let input = take f work in
+    let old = take f (drop at work) in
+    let rings = drop t store in
+    let reads = readRows f n 0 ls cs store in
+    let lines = lineRows n f k tail fs input reads in
+    let lw = fits .work-is in
+    let li : length input ≡ f = length-take-le f work (omega arith) in
+    let la : length (take at work) ≡ at = length-take-le at work (omega arith) in
+    let lo : length old ≡ f = part-long at work f (omega arith) in
+    let lp = put-beside n f k fs input reads tail li in
+    let begun = copy-join t (at + f) store work x (omega (arith, fits .store-is)) (omega (arith, fits .store-is)) e₀ in
+    let q = first-part at (take at work) (old ++ rings) _ (begun ∙ rw (take-add at f work, append-assoc) refl) la in
+    let first = ap (take f) (q .0) ∙ take-take f at work (omega arith) in
+    let x₁-is : x₁ ≡ input ++ (reads ++ lines .put) = e₁ .1 ∙ rw first refl in
+    let lr : length reads ≡ n * f = omega (arith, kept ∙ ap length (q .0) ∙ la, simp length-append at (ap length x₁-is)) in
+    let w₁ = putMid 0 (at - 0) (putMid (at + f) (length work - (at + f)) work x) x₁ in
+    let lw₁ : length w₁ ≡ length work = ap length (q .1 x₁) ∙ simp (length-append, length-drop) (omega (arith, kept ∙ ap length (q .0) ∙ la, lo, fits .store-is)) in
+    let lent : length (take (length w₁ - f) (drop f w₁)) ≡ n * f + n * f + f + total ps = simp (length-take, length-drop) (omega (arith, lw₁, fits .work-is)) in
+    let fits-on = output-yes n f ps _ (fits .some) (fits .few) (fits .small) (fits .fours) lent in
+    tone-join n (lines .filters) fs (filters-long n f k tail fs input reads) f d ps qs gs hs _ x₂ input reads (lines .put) old rings li lr lp lo
+    (q .1 x₁ ∙ rw x₁-is (simp append-assoc)) (e₁ .0 ∙ rw first refl) (output-done n f d ps qs gs hs _ x₂ fits-on e₂)

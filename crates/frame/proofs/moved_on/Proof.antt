@@ -1,0 +1,19 @@
+-- `frame::moved_on` meets its contract. Assumes nothing.
+use borrow.Author.Needs.{needs}
+use native.Mathlib.Omega.{arith}
+use mathlib.Core.Path.{ap, _∙_}
+use mathlib.Core.List.{List}
+use Prim.Native.Nat.{ℕ}
+use Rattle.stages.specs.Settle.{allMoved}
+use Rattle.frame.proofs.Room.{every-line}
+use Rattle.frame.proofs.moved_on.Statement.{statement}
+use Rattle.frame.proofs.moved_on.Tie as tie
+
+returns : tie.Need-returns
+returns c =
+    let a = c .before .before .args in
+    let lines = c .before .move-lines .ensures ∙ ap (λ (ls : List ℕ). allMoved (a .f) ls (a .cs)) (every-line (a .ls) (omega arith)) in
+    λ i. record { ok = a .ok; filters = a .fs; lines = lines i; passes = c .move-passes .ensures i }
+
+pub moved-on-spec : {M : Type 1} → statement M
+moved-on-spec = tie.close (tie.spec (λ c κs. search needs) (λ c κs. search needs) returns)

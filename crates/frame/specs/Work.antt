@@ -1,0 +1,80 @@
+-- How a frame lies in the work memory: the input, the rows read, the rows mixed, which become those to put, the output and the allpass rings.
+use Prim.Native.Nat.{ℕ, zero, suc, _+_, _*_, _%_, _≤_, _<_}
+use mathlib.Core.Path.{_≡_}
+use mathlib.Core.Bool.{Bool}
+use mathlib.Core.List.{List, _++_}
+use lib.Ieee.{Float}
+use lib.ListN.{length, getD, take, drop}
+use Rattle.delay.specs.declared.Cursors.{Cursors}
+use Rattle.delay.specs.Calls.{both}
+use Rattle.iir.specs.declared.Filter.{Filter}
+use Rattle.unit.specs.Model.{Model}
+use Rattle.unit.specs.Sizes.{total}
+use Rattle.stages.specs.Lines.{readRows}
+use Rattle.stages.specs.Frame.{Frame, lineRows, outputRow}
+
+-- a whole frame's rows
+unfoldable pub framed : List Float → Frame → List Float
+framed input r = input ++ (r .reads ++ (r .lines .put ++ (r .output .out ++ r .output .rings)))
+
+-- the rings of n lines, the first at a, lie one after the other within `len` floats; each holds a frame of f, and its cursors are within it
+abbrev pub Rings : ℕ → ℕ → ℕ → ℕ → List ℕ → List Cursors → ℕ → Type 0
+Rings f zero i a ls cs len = Unit {0}
+Rings f (suc n) i a ls cs len =
+    (f ≤ getD ls i 0) × (getD ls i 0 ≤ 65536) × (getD cs i (both 0) .read .0 < getD ls i 0) × (getD cs i (both 0) .write .0 < getD ls i 0)
+    × (a + getD ls i 0 ≤ len) × Rings f n (i + 1) (a + getD ls i 0) ls cs len
+
+-- what the workers over n lines ask: rows of n frames of f samples, and the rings
+pub record LinesFit (n f : ℕ) (ls : List ℕ) (cs : List Cursors) (store rows : ℕ) : Type 0 where
+  pub few : n ≤ 16
+  pub some : 0 < f
+  pub small : f ≤ 65536
+  pub rows-are : rows ≡ n * f
+  pub rings : Rings f n 0 0 ls cs store
+
+-- the cursors of n rings, from ring i on, are within them
+abbrev pub Within : ℕ → ℕ → List ℕ → List Cursors → Type 0
+Within zero i ls cs = Unit {0}
+Within (suc n) i ls cs =
+    (getD ls i 0 ≤ 65536) × (getD cs i (both 0) .read .0 < getD ls i 0) × (getD cs i (both 0) .write .0 < getD ls i 0) × Within n (i + 1) ls cs
+
+-- what a frame of n lines asks of the memory lent: the lines' rings and then the allpass rings in the store; the rows and then the
+-- allpass rings in the work memory
+pub record FrameFits (n f : ℕ) (ls : List ℕ) (cs : List Cursors) (ps : List ℕ) (store work : ℕ) : Type 0 where
+  pub few : n ≤ 16
+  pub some : 0 < n
+  pub frame : 0 < f
+  pub small : f ≤ 65536
+  pub fours : f % 4 ≡ 0
+  pub rings : Rings f n 0 0 ls cs store
+  pub passes : total ps ≤ 65536
+  pub four : length ps ≡ 4
+  pub store-is : store ≡ total (take n ls) + total ps
+  pub work-is : work ≡ f + n * f + n * f + f + total ps
+
+-- a frame of n lines by its parts, where a model has them: the mix's factor k, the sum's divisor d, the lengths ps and cursors qs of the
+-- allpass rings
+abbrev pub frameBy : ℕ → ℕ → Float → Float → Bool → List ℕ → List Cursors → List ℕ → List Cursors → List Filter → List Float → List Float → Frame
+frameBy n f k d tail ls cs ps qs fs input store =
+    let reads = readRows f n 0 ls cs store in
+    record {
+      reads = reads;
+      lines = lineRows n f k tail fs input reads;
+      output = outputRow n f d ps qs fs (drop (total (take n ls)) store) reads;
+    }
+
+-- what a whole frame of model m asks of the memory lent, with the lines' lengths ls and cursors cs and the allpass rings' cursors qs
+pub record WholeFits (m : Model) (f : ℕ) (ls : List ℕ) (cs qs : List Cursors) (store work output : ℕ) : Type 0 where
+  pub every : length ls ≡ m .lines
+  pub fits : FrameFits (m .lines) f ls cs (m .passes) store work
+  pub lines : Within (m .lines) 0 ls cs
+  pub passes : Within (length (m .passes)) 0 (m .passes) qs
+  pub short : f ≤ 1024
+  pub out : output ≡ f
+
+-- what settling a frame of n lines asks: the lines' rings, and as many floats after them as after the rows in the work memory
+pub record SettleFits (n f : ℕ) (ls : List ℕ) (cs : List Cursors) (store work output : ℕ) : Type 0 where
+  pub lines : LinesFit n f ls cs store (n * f)
+  pub rows : f + n * f + n * f + f ≤ work
+  pub rings : total (take n ls) + work ≡ store + (f + n * f + n * f + f)
+  pub out : output ≡ f

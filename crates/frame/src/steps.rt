@@ -1,0 +1,128 @@
+// The steps of a frame over n lines, and what a frame leaves of their rings, cursors and filters.
+//
+// The length of a line's ring and its cursors stand at the line's place in arrays of sixteen, which a
+// unit of fewer lines pads.
+use delay::Cursors;
+use samples::Samples;
+ghost use mathlib.Core.Path.{_≡_};
+ghost use mathlib.Core.List.{_++_};
+ghost use Prim.Native.Nat.{_+_, _-_, _<_, _≤_};
+ghost use lib.ListN.{length, take, drop};
+ghost use Rattle.unit.specs.Sizes.{total};
+ghost use Rattle.stages.specs.Lines.{readRows};
+ghost use Rattle.stages.specs.Settle.{putRows, movedBy, allMoved};
+ghost use Rattle.frame.specs.Work.{LinesFit, Within};
+
+// Reads a frame of each line, row after row.
+pub(crate) fn read_lines(
+    n: usize,
+    f: usize,
+    ls: [usize; 16],
+    cs: [Cursors; 16],
+    store: &[f32],
+    rows: &mut [f32],
+)
+    requires { ⌜ LinesFit n f ls cs (length (now store)) (length (now rows)) ⌝ }
+    ensures { λ _. ⌜ now (rows .exit) ≡ readRows f n 0 ls cs (now (store .entry)) ⌝ }
+{
+    let mut a = 0usize;
+    let mut b = 0usize;
+    for i in 0..n {
+        let c = cs[i];
+        let e = a + ls[i];
+        let t = b + f;
+        delay::get(&store[a..e], c, &mut rows[b..t]);
+        a = e;
+        b = t;
+    }
+}
+
+// Puts each row into its line's ring, and leaves what lies after the lines.
+pub(crate) fn put_lines(
+    n: usize,
+    f: usize,
+    ls: [usize; 16],
+    cs: [Cursors; 16],
+    rows: &[f32],
+    store: &mut [f32],
+)
+    requires { ⌜ LinesFit n f ls cs (length (now store)) (length (now rows)) ⌝ }
+    ensures { λ _. ⌜ now (store .exit) ≡ putRows f n 0 ls cs (now (rows .entry)) (drop (total (take n ls)) (now (store .entry))) (now (store .entry)) ⌝ }
+{
+    let mut a = 0usize;
+    let mut b = 0usize;
+    for i in 0..n {
+        let c = cs[i];
+        let e = a + ls[i];
+        let t = b + f;
+        delay::put(&mut store[a..e], c, &rows[b..t]);
+        a = e;
+        b = t;
+    }
+}
+
+// Sets the allpass rings, which lie at the end of a store.
+pub(crate) fn put_rings(rings: &[f32], store: &mut [f32])
+    requires { ⌜ length (now rings) ≤ length (now store) ⌝ }
+    ensures { λ _. ⌜ now (store .exit) ≡ take (length (now (store .entry)) - length (now (rings .entry))) (now (store .entry)) ++ now (rings .entry) ⌝ }
+{
+    let at = store.len() - rings.len();
+    stages::copy(rings, &mut store[at..]);
+}
+
+// Puts each row into its line's ring, and sets the allpass rings after the lines.
+pub(crate) fn settle(
+    n: usize,
+    f: usize,
+    ls: [usize; 16],
+    cs: [Cursors; 16],
+    rows: &[f32],
+    rings: &[f32],
+    store: &mut [f32],
+)
+    requires { ⌜ LinesFit n f ls cs (length (now store)) (length (now rows)) ⌝ }
+    requires { ⌜ total (take n ls) + length (now rings) ≡ length (now store) ⌝ }
+    ensures { λ _. ⌜ now (store .exit) ≡ putRows f n 0 ls cs (now (rows .entry)) (now (rings .entry)) (now (store .entry)) ⌝ }
+{
+    put_lines(n, f, ls, cs, rows, store);
+    put_rings(rings, store);
+}
+
+// The cursors of n lines after a frame.
+pub(crate) fn move_lines(n: usize, f: usize, ls: [usize; 16], cs: [Cursors; 16]) -> [Cursors; 16]
+    requires { ⌜ (n ≤ 16) × (f ≤ 65536) × Within n 0 ls cs ⌝ }
+    ensures { λ r. ⌜ r ≡ allMoved f (take n ls) cs ⌝ }
+{
+    let mut ds = cs;
+    for i in 0..n {
+        let c = cs[i];
+        ds[i] = moved(f, ls[i], c);
+    }
+    ds
+}
+
+// The cursors of the allpass rings after a frame.
+pub(crate) fn move_passes(f: usize, ls: [usize; 4], cs: [Cursors; 4]) -> [Cursors; 4]
+    requires { ⌜ (f ≤ 65536) × Within 4 0 ls cs ⌝ }
+    ensures { λ r. ⌜ r ≡ allMoved f ls cs ⌝ }
+{
+    let mut ds = cs;
+    for i in 0..4usize {
+        let c = cs[i];
+        ds[i] = moved(f, ls[i], c);
+    }
+    ds
+}
+
+// The cursors of a ring of length l, f samples on.
+fn moved(f: usize, l: usize, c: Cursors) -> Cursors
+    requires { ⌜ (f ≤ 65536) × (l ≤ 65536) × (c .read .0 < l) × (c .write .0 < l) ⌝ }
+    ensures { λ r. ⌜ r ≡ movedBy f l c ⌝ }
+{
+    let read = c.read.0;
+    let write = c.write.0;
+    Cursors {
+        read: Samples((read + f) % l),
+        write: Samples((write + f) % l),
+    }
+}

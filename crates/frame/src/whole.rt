@@ -1,0 +1,184 @@
+// A whole frame in the work memory, judged, and settled into the store and the output where all of it
+// is finite.
+use crate::steps::read_lines;
+use crate::steps::settle;
+use delay::Cursors;
+use iir::Filter;
+use outputs::output_row;
+use rows::line_rows;
+use samples::and;
+use samples::clear;
+use search::all_finite;
+ghost use mathlib.Core.Path.{_≡_};
+ghost use mathlib.Core.Bool.{_&&_, cond};
+ghost use mathlib.Core.List.{_++_};
+ghost use Prim.Native.Nat.{_+_, _*_, _<_, _≤_};
+ghost use lib.ListN.{length, take, drop, replicate};
+ghost use Rattle.samples.specs.Binary32.{+0};
+ghost use Rattle.search.specs.Search.{allFinite};
+ghost use Rattle.stages.specs.Lines.{readRows};
+ghost use Rattle.stages.specs.Frame.{lineRows, newFilters};
+ghost use Rattle.stages.specs.Settle.{filtersFinite, putRows};
+ghost use Rattle.frame.specs.Work.{LinesFit, SettleFits, FrameFits, frameBy, framed};
+ghost use Rattle.frame.specs.Steps.{judgedOf, judgedStore, judgedOut};
+
+// What a frame in the work memory came to: whether all of it is finite, and its filters.
+pub(crate) struct Judged {
+    pub(crate) ok: bool,
+    pub(crate) filters: [Filter; 51],
+}
+
+// Steps 2 to 4: `rows` are the input, and become the input, n rows read and n to put. Gives the
+// filters after them.
+pub(crate) fn play_lines(
+    n: usize,
+    f: usize,
+    factor: f32,
+    tail: bool,
+    ls: [usize; 16],
+    cs: [Cursors; 16],
+    fs: [Filter; 51],
+    store: &[f32],
+    rows: &mut [f32],
+) -> [Filter; 51]
+    requires { ⌜ LinesFit n f ls cs (length (now store)) (n * f) ⌝ }
+    requires { ⌜ (0 < n) × (length (now rows) ≡ f + n * f + n * f) ⌝ }
+    ensures { λ r. ⌜ r ≡ lineRows n f factor tail fs (take f (now (rows .entry))) (readRows f n 0 ls cs (now (store .entry))) .filters ++ drop (3 * n) fs ⌝ }
+    ensures { λ _. ⌜ now (rows .exit) ≡ take f (now (rows .entry)) ++ (readRows f n 0 ls cs (now (store .entry)) ++ lineRows n f factor tail fs (take f (now (rows .entry))) (readRows f n 0 ls cs (now (store .entry))) .put) ⌝ }
+{
+    let at = f + n * f;
+    read_lines(n, f, ls, cs, store, &mut rows[f..at]);
+    line_rows(n, f, factor, tail, fs, rows)
+}
+
+// A whole frame in the work memory, which begins with the input. Gives the new filters.
+pub(crate) fn frame_rows(
+    n: usize,
+    f: usize,
+    factor: f32,
+    divisor: f32,
+    tail: bool,
+    ls: [usize; 16],
+    cs: [Cursors; 16],
+    ps: [usize; 4],
+    qs: [Cursors; 4],
+    fs: [Filter; 51],
+    store: &[f32],
+    work: &mut [f32],
+) -> [Filter; 51]
+    requires { ⌜ FrameFits n f ls cs ps (length (now store)) (length (now work)) ⌝ }
+    ensures { λ r. ⌜ r ≡ newFilters (frameBy n f factor divisor tail ls cs ps qs fs (take f (now (work .entry))) (now (store .entry))) ++ drop (3 * n + 3) fs ⌝ }
+    ensures { λ _. ⌜ now (work .exit) ≡ framed (take f (now (work .entry))) (frameBy n f factor divisor tail ls cs ps qs fs (take f (now (work .entry))) (now (store .entry))) ⌝ }
+{
+    let at = f + n * f + n * f;
+    let b = at + f;
+    let a = store.len() - (work.len() - b);
+    stages::copy(&store[a..], &mut work[b..]);
+    let gs = play_lines(n, f, factor, tail, ls, cs, fs, store, &mut work[0..at]);
+    output_row(n, f, divisor, ps, qs, gs, &mut work[f..])
+}
+
+// Whether all that a frame would keep or hand out is finite: the filters, and the work memory from
+// the rows to put on.
+pub(crate) fn frame_finite(n: usize, f: usize, fs: [Filter; 51], work: &[f32]) -> bool
+    requires { ⌜ f + n * f ≤ length (now work) ⌝ }
+    ensures { λ r. ⌜ r ≡ (filtersFinite fs && allFinite (drop (f + n * f) (now (work .entry)))) ⌝ }
+{
+    let at = f + n * f;
+    and(stages::filters_finite(fs), all_finite(&work[at..], f))
+}
+
+// Puts the rows of a frame into the lines and its allpass rings after them, and hands its output out.
+pub(crate) fn settle_frame(
+    n: usize,
+    f: usize,
+    ls: [usize; 16],
+    cs: [Cursors; 16],
+    work: &[f32],
+    store: &mut [f32],
+    output: &mut [f32],
+)
+    requires { ⌜ SettleFits n f ls cs (length (now store)) (length (now work)) (length (now output)) ⌝ }
+    ensures { λ _. ⌜ now (store .exit) ≡ putRows f n 0 ls cs (take (n * f) (drop (f + n * f) (now (work .entry)))) (drop (f + n * f + n * f + f) (now (work .entry))) (now (store .entry)) ⌝ }
+    ensures { λ _. ⌜ now (output .exit) ≡ take f (drop (f + n * f + n * f) (now (work .entry))) ⌝ }
+{
+    let a = f + n * f;
+    let p = a + n * f;
+    let e = p + f;
+    settle(n, f, ls, cs, &work[a..p], &work[e..], store);
+    stages::copy(&work[p..e], output);
+}
+
+// The same if `ok`, and else nothing.
+pub(crate) fn settle_if(
+    ok: bool,
+    n: usize,
+    f: usize,
+    ls: [usize; 16],
+    cs: [Cursors; 16],
+    work: &[f32],
+    store: &mut [f32],
+    output: &mut [f32],
+)
+    requires { ⌜ SettleFits n f ls cs (length (now store)) (length (now work)) (length (now output)) ⌝ }
+    ensures { λ _. ⌜ now (store .exit) ≡ cond ok (putRows f n 0 ls cs (take (n * f) (drop (f + n * f) (now (work .entry)))) (drop (f + n * f + n * f + f) (now (work .entry))) (now (store .entry))) (now (store .entry)) ⌝ }
+    ensures { λ _. ⌜ now (output .exit) ≡ cond ok (take f (drop (f + n * f + n * f) (now (work .entry)))) (now (output .entry)) ⌝ }
+{
+    if !ok {
+        return;
+    }
+    settle_frame(n, f, ls, cs, work, store, output);
+}
+
+// Judges a frame that lies in the work memory, its filters `fs`; where all of it is finite, puts it
+// into the store and the output too. The work memory is cleared.
+pub(crate) fn finish_frame(
+    n: usize,
+    f: usize,
+    ls: [usize; 16],
+    cs: [Cursors; 16],
+    fs: [Filter; 51],
+    store: &mut [f32],
+    work: &mut [f32],
+    output: &mut [f32],
+) -> bool
+    requires { ⌜ SettleFits n f ls cs (length (now store)) (length (now work)) (length (now output)) ⌝ }
+    ensures { λ r. ⌜ r ≡ (filtersFinite fs && allFinite (drop (f + n * f) (now (work .entry)))) ⌝ }
+    ensures { λ _. ⌜ now (store .exit) ≡ cond (filtersFinite fs && allFinite (drop (f + n * f) (now (work .entry)))) (putRows f n 0 ls cs (take (n * f) (drop (f + n * f) (now (work .entry)))) (drop (f + n * f + n * f + f) (now (work .entry))) (now (store .entry))) (now (store .entry)) ⌝ }
+    ensures { λ _. ⌜ now (work .exit) ≡ replicate (length (now (work .entry))) +0 ⌝ }
+    ensures { λ _. ⌜ now (output .exit) ≡ cond (filtersFinite fs && allFinite (drop (f + n * f) (now (work .entry)))) (take f (drop (f + n * f + n * f) (now (work .entry)))) (now (output .entry)) ⌝ }
+{
+    let ok = frame_finite(n, f, fs, work);
+    settle_if(ok, n, f, ls, cs, work, store, output);
+    clear(work);
+    ok
+}
+
+// A frame in the work memory, which begins with the input; where all of it is finite, in the store
+// and the output too. The work memory is cleared.
+pub(crate) fn judge_frame(
+    n: usize,
+    f: usize,
+    factor: f32,
+    divisor: f32,
+    tail: bool,
+    ls: [usize; 16],
+    cs: [Cursors; 16],
+    ps: [usize; 4],
+    qs: [Cursors; 4],
+    fs: [Filter; 51],
+    store: &mut [f32],
+    work: &mut [f32],
+    output: &mut [f32],
+) -> Judged
+    requires { ⌜ FrameFits n f ls cs ps (length (now store)) (length (now work)) ⌝ }
+    requires { ⌜ (length (now output) ≡ f) × (3 * n + 3 ≡ 51) ⌝ }
+    ensures { λ r. ⌜ r ≡ judgedOf (frameBy n f factor divisor tail ls cs ps qs fs (take f (now (work .entry))) (now (store .entry))) ⌝ }
+    ensures { λ _. ⌜ now (store .exit) ≡ judgedStore n f ls cs (frameBy n f factor divisor tail ls cs ps qs fs (take f (now (work .entry))) (now (store .entry))) (now (store .entry)) ⌝ }
+    ensures { λ _. ⌜ now (work .exit) ≡ replicate (length (now (work .entry))) +0 ⌝ }
+    ensures { λ _. ⌜ now (output .exit) ≡ judgedOut (frameBy n f factor divisor tail ls cs ps qs fs (take f (now (work .entry))) (now (store .entry))) (now (output .entry)) ⌝ }
+{
+    let gs = frame_rows(n, f, factor, divisor, tail, ls, cs, ps, qs, fs, store, work);
+    let ok = finish_frame(n, f, ls, cs, gs, store, work, output);
+    Judged { ok, filters: gs }
+}

@@ -1,0 +1,29 @@
+-- The marks of an open frame: which of its jobs are done.
+use Prim.Native.Nat.{ℕ, _+_}
+use mathlib.Core.Bool.{Bool, false}
+use mathlib.Core.List.{List}
+use lib.ListN.{getD, take}
+use Rattle.samples.specs.Lists.{allFrom}
+use Rattle.unit.specs.UnitState.{UnitState}
+use Rattle.unit.specs.Model.{Model}
+
+-- read i's mark stands at i, and after the reads' the mix's, the lines' and the output's
+abbrev pub mixMark : Model → ℕ
+mixMark m = m .lines
+
+abbrev pub lineMark : Model → ℕ → ℕ
+lineMark m i = m .lines + 1 + i
+
+abbrev pub outputMark : Model → ℕ
+outputMark m = m .lines + m .lines + 1
+
+abbrev pub marked : UnitState → ℕ → Bool
+marked u k = getD (u .held .marks) k false
+
+-- "Close: after all 34"
+abbrev pub allDone : List Bool → Bool
+allDone marks = allFrom (λ k done. done) 0 marks
+
+-- "after all 16 reads"
+abbrev pub allRead : Model → UnitState → Bool
+allRead m u = allDone (take (m .lines) (u .held .marks))

@@ -1,8 +1,0 @@
-pub mod LineLaws
-pub mod LineTurns
-pub mod LineFills
-pub mod RowJoins
-pub mod FrameParts
-pub mod Room
-pub mod RowsOf
-pub mod Rooms

@@ -1,3 +1,0 @@
-pub mod Work
-pub mod Steps
-pub mod Parts

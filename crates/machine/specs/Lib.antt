@@ -1,0 +1,6 @@
+pub mod Ending
+pub mod Whole
+pub mod Jobs
+pub mod Calls
+pub mod Requests
+pub mod Runs

@@ -1,0 +1,106 @@
+-- Fresh, reset, and a whole frame.
+use Prim.Native.Nat.{ℕ}
+use mathlib.Core.Bool.{Bool, true, false, cond}
+use mathlib.Core.List.{List, []}
+use lib.Ieee.{Float}
+use lib.IntN.{ℤ, pos}
+use lib.ListN.{length, replicate}
+use Rattle.samples.specs.declared.Answer.{Answer}
+use Rattle.samples.specs.declared.Answer.the-variants.{Accepted, NotFinite}
+use Rattle.samples.specs.Answers.{accept}
+use Rattle.samples.specs.Binary32.{+0}
+use Rattle.audio_buffer.specs.Verdict.{verdictOf}
+use Rattle.iir.specs.declared.Filter.{Filter}
+use Rattle.bands.specs.declared.Times.{Times}
+use Rattle.bands.specs.Tail.{tailCount, fallen}
+use Rattle.unit.specs.UnitState.{UnitState}
+use Rattle.unit.specs.Model.{Model}
+use Rattle.unit.specs.Sizes.{lengths, filtersLen}
+use Rattle.unit.specs.Fresh.{freshUnit}
+use Rattle.judges.specs.Judges.{judgedFresh, judgedReset, judgedApply, judgedTail}
+use Rattle.stages.specs.Lines.{filtersOf}
+use Rattle.stages.specs.Frame.{Frame, newFilters, frameOf}
+use Rattle.stages.specs.Settle.{frameFinite, settled, moved}
+use Rattle.machine.specs.Ending.{Memory, Ending, refused, quietly, cleared}
+
+-- fresh: "store all +0, cursors, count and filters zero, no frame open; refused, it gives such a state with rate 8,000 and F 4"
+abbrev pub begun : Model → ℕ → ℕ → List Float → Ending
+begun m rate frame store =
+    quietly (judgedFresh m rate frame (length store))
+    (record { unit = freshUnit m rate frame; store = cleared store; work = [] })
+    (record { unit = freshUnit m 8000 4; store = store; work = [] })
+
+-- the unit with another count
+abbrev pub counted : UnitState → ℤ → UnitState
+counted u count = record { settings = u .settings; cursors = u .cursors; count = count; filters = u .filters; held = u .held }
+
+-- reset: "all rings +0, count 0; cursors and filters stay as they are"
+abbrev pub silenced : Model → Memory → Ending
+silenced m w =
+    quietly (judgedReset m (w .unit) (length (w .store)))
+    (record { unit = counted (w .unit) (pos 0); store = cleared (w .store); work = w .work })
+    w
+
+-- ---- a frame to be played, at once or as jobs: an apply with its times, coefficients and input, or a tail
+
+pub data Play : Type 0 where
+  apply : Times → List Float → List Float → Play
+  tail : Play
+
+abbrev pub isTail : Play → Bool
+isTail (apply t coefficients input) = false
+isTail tail = true
+
+-- the filters that it begins with: "All 51 filters get the given coefficients and zero history."; "Tail: the same with kept filters"
+abbrev pub filtersFor : Model → UnitState → Play → List Filter
+filtersFor m u (apply t coefficients input) = filtersOf (filtersLen m) coefficients
+filtersFor m u tail = u .filters
+
+-- its input row: a tail has none, and the row is all +0
+abbrev pub inputFor : UnitState → Play → List Float
+inputFor u (apply t coefficients input) = input
+inputFor u tail = replicate (u .settings .frame) +0
+
+-- the count that it sets: step 6's, or "count falls by one"
+abbrev pub countFor : UnitState → Play → ℤ
+countFor u (apply t coefficients input) = pos (tailCount t (u .settings .rate) (u .settings .frame))
+countFor u tail = fallen (u .count)
+
+-- its frame
+abbrev pub frameFor : Model → UnitState → Play → List Float → Frame
+frameFor m u p store = frameOf m (isTail p) u (filtersFor m u p) (inputFor u p) store
+
+-- what is due of the whole call before its frame is judged
+abbrev pub wholeDue : Model → UnitState → Play → ℕ → ℕ → ℕ → Answer
+wholeDue m u (apply t coefficients input) store work output = judgedApply m u t coefficients input store work output
+wholeDue m u tail store work output = judgedTail m u store work output
+
+-- ---- apply and tail
+
+-- the unit after an accepted frame: its cursors moved, its filters those of the frame, its count set
+abbrev pub movedOn : Model → UnitState → List Filter → ℤ → UnitState
+movedOn m u filters count = record { settings = u .settings; cursors = moved m u; count = count; filters = filters; held = u .held }
+
+-- a frame r kept and handed out, and the work memory cleared: "An accepted whole call .. leaves work all +0 too."
+abbrev pub kept : Model → Memory → Frame → ℤ → Ending
+kept m w r count = record {
+  answer = Accepted;
+  verdict = verdictOf count;
+  memory = record { unit = movedOn m (w .unit) (newFilters r) count; store = settled m (w .unit) r (w .store); work = cleared (w .work) };
+  output = r .output .out;
+}
+
+-- a memory whose work memory is cleared
+abbrev pub wiped : Memory → Memory
+wiped w = record { unit = w .unit; store = w .store; work = cleared (w .work) }
+
+-- what a frame r comes to that nothing else refuses: 9 unless all of it is finite, "state from before ..; store and output unchanged; work all
+-- +0"
+unfoldable pub played : Model → Memory → Frame → ℤ → List Float → Ending
+played m w r count output = cond (frameFinite r) (kept m w r count) (refused NotFinite (wiped w) output)
+
+abbrev pub atOnce : Model → Memory → Play → List Float → Ending
+atOnce m w p output =
+    let u = w .unit in
+    let due = wholeDue m u p (length (w .store)) (length (w .work)) (length output) in
+    accept due (played m w (frameFor m u p (w .store)) (countFor u p) output) (refused due w output)

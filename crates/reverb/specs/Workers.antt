@@ -1,0 +1,33 @@
+-- What the private workers of the whole calls come to.
+use mathlib.Core.Bool.{Bool, cond}
+use mathlib.Core.List.{List}
+use lib.Ieee.{Float}
+use lib.IntN.{ℤ}
+use lib.ListN.{take}
+use Rattle.samples.specs.declared.Answer.the-variants.{Accepted, NotFinite}
+use Rattle.audio_buffer.specs.declared.AudioEffectState.the-variants.{TailComplete}
+use Rattle.audio_buffer.specs.Verdict.{verdictOf}
+use Rattle.iir.specs.declared.Filter.{Filter}
+use Rattle.unit.specs.declared.State.{State}
+use Rattle.unit.specs.declared.Outcome.{Outcome}
+use Rattle.unit.specs.UnitState.{UnitState, ofState}
+use Rattle.unit.specs.Model.{wall}
+use Rattle.unit.specs.Outcome.{outcome}
+use Rattle.stages.specs.Frame.{frameOf}
+use Rattle.frame.specs.declared.Stepped.{Stepped}
+use Rattle.machine.specs.Ending.{Ending, lend}
+use Rattle.machine.specs.Whole.{played}
+
+-- the unit after what a frame came to
+abbrev pub stepped : UnitState → Stepped → ℤ → UnitState
+stepped u x count =
+    record { settings = u .settings; cursors = record { lines = x .lines; passes = x .passes }; count = count; filters = x .filters; held = u .held }
+
+-- 9 unless all of it is finite
+abbrev pub concluded : UnitState → Stepped → ℤ → Outcome
+concluded u x count = cond (x .ok) (outcome Accepted (stepped u x count) (verdictOf count)) (outcome NotFinite u TailComplete)
+
+-- a frame through the filters fs, the input at the front of the work memory
+abbrev pub playing : State → Bool → List Filter → ℤ → List Float → List Float → List Float → Ending
+playing s tail fs count store work output =
+    played wall (lend s store work) (frameOf wall tail (ofState s) fs (take (s .frame) work) store) count output

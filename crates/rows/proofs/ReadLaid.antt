@@ -1,0 +1,109 @@
+-- One line's row read into the work memory: where its ring lies, and what comes of it. Assumes nothing.
+use mathlib.Core.Path.{_≡_, refl, sym, ap, _∙_}
+use mathlib.Core.Bool.{true}
+use mathlib.Core.List.{List}
+use Prim.Native.Nat.{ℕ, zero, suc, _+_, _*_, _-_, _<_, _≤_}
+use native.Mathlib.Nat.{zero-add, add-zero}
+use native.Mathlib.Numerals.{add-one}
+use native.Mathlib.Omega.{arith}
+use lib.Ieee.{Float}
+use lib.ListN.{length, getD, take, drop}
+use lib.Seq.{drop-drop}
+use lib.Dec.{ltb, eqb}
+use borrow.Author.Tests.{ltb-true, eqb-true}
+use borrow.Rule.Slice.PartMut.{putMid}
+use Rattle.samples.specs.Lists.{row}
+use Rattle.samples.proofs.Laws.{split-and}
+use Rattle.samples.proofs.Turns.{lent}
+use Rattle.samples.proofs.Lists.{part-long, lent-long, come-back}
+use Rattle.samples.proofs.Rows.{row-ends}
+use Rattle.delay.specs.declared.Cursors.{Cursors}
+use Rattle.delay.specs.Calls.{both, getOut}
+use Rattle.delay.specs.Ring.{read}
+use Rattle.delay.proofs.Laws.{Moves, get-ok}
+use Rattle.unit.specs.Model.{wall}
+use Rattle.unit.specs.Sizes.{total, storeLen}
+use Rattle.unit.specs.Range.{cursorsIn}
+use Rattle.unit.specs.Room.{ringsHold}
+use Rattle.stages.proofs.RowLaws.{total-more}
+use Rattle.rows.specs.Fits.{workFor, WorkFits}
+use Rattle.rows.specs.Rows.{rowsOf}
+use Rattle.unit.proofs.Totals.{total-next, total-front}
+use Rattle.rows.proofs.RowsOf.{work-fits}
+use Rattle.rows.proofs.LineLaid.{read-set, read-at}
+use Rattle.rows.specs.Rings.{ringAt}
+use Rattle.rows.specs.Reads.{readIn, readLaid, lineRoom}
+use Rattle.unit.proofs.Ranges.{cursors-at, holds-at}
+
+-- ring i from line j on begins after the i rings before it
+ring-from : (ls : List ℕ) (i j : ℕ) (store : List Float) → ringAt ls j i store ≡ take (getD ls (j + i) 0) (drop (total (take i (drop j ls))) store)
+unfolding total
+ring-from ls zero j store = rw add-zero refl
+ring-from ls (suc i) j store =
+    let e : j + 1 + i ≡ j + suc i = omega arith in
+    ring-from ls i (j + 1) (drop (getD ls j 0) store) ∙ rw (e, total-more i j ls, ← drop-drop (total (take i (drop (j + 1) ls))) (getD ls j 0) store) refl
+
+pub ring-at : (ls : List ℕ) (i : ℕ) (store : List Float) → ringAt ls 0 i store ≡ take (getD ls i 0) (drop (total (take i ls)) store)
+ring-at ls i store = rw zero-add at (ring-from ls i 0 store)
+
+-- there is such a line, and the memory fits
+pub line-fits : (f : ℕ) (ls : List ℕ) (i store work : ℕ) → lineRoom wall f ls i store work ≡ true
+    → (i < 16) × WorkFits wall f work × (ringsHold f ls ≡ true) × (store ≡ storeLen wall ls)
+line-fits f ls i store work e =
+    let p = split-and (ltb i 16) _ e in
+    let q = split-and (workFor wall f work) _ (p .1) in
+    let r = split-and (ringsHold f ls) (eqb store (storeLen wall ls)) (q .1) in
+    (ltb-true i 16 (p .0), work-fits f work (q .0), r .0, eqb-true store (storeLen wall ls) (r .1))
+
+-- ---- the row of line i
+
+module _ (f : ℕ) (ls : List ℕ) (i : ℕ) (store w : List Float) (h : i < 16) (all : length ls ≡ 16) (rings : ringsHold f ls ≡ true)
+    (long : length store ≡ storeLen wall ls) (fits : WorkFits wall f (length w)) where
+  abbrev start : ℕ
+  start = total (take i ls)
+
+  abbrev l : ℕ
+  l = getD ls i 0
+
+  -- its ring holds a frame
+  pub ring-holds : (f ≤ l) × (l ≤ 65536)
+  ring-holds = holds-at f ls rings i (omega arith)
+
+  -- it lies within the store
+  pub ring-within : start + l ≤ length store
+  unfolding storeLen
+  ring-within = omega (arith, total-next i ls, total-front (suc i) ls, long)
+
+  -- and its row within the work memory
+  pub row-within : f + i * f + f ≤ length w
+  row-within = omega (arith, row-ends i 16 f h, fits .work-is)
+
+  pub read-laid : (c : Cursors) (a : ℕ) (x : List Float) → a ≡ start
+      → let b = f + i * f in
+      length x ≡ length (take (b + f - b) (drop b w))
+      → x ≡ getOut (take (a + l - a) (drop a store)) c (take (b + f - b) (drop b w))
+      → putMid b (b + f - b) w x ≡ readLaid wall f ls i c true store w
+  unfolding readLaid rowsOf
+  read-laid c a x ea kept ex =
+      let b = f + i * f in
+      let whole : length x ≡ f = kept ∙ lent-long b w f row-within in
+      let ring : take (a + l - a) (drop a store) ≡ ringAt ls 0 i store = lent a l store ∙ rw (ea, ring-at ls i store) refl in
+      let got : x ≡ getOut (ringAt ls 0 i store) c (row f i (take (16 * f) (drop f w))) = ex ∙ rw (ring, lent b f w, read-at f i w h fits) refl in
+      come-back b w f x whole ∙ read-set f i w h fits x whole ∙ rw got refl
+
+  -- a ring whose cursors are within it gives the row whole
+  pub read-given : (cs : List Cursors) → cursorsIn ls cs ≡ true
+      → readIn f ls i (getD cs i (both 0)) store (rowsOf wall f w) ≡ read (ringAt ls 0 i store) (getD cs i (both 0) .read .0) f
+  unfolding rowsOf
+  read-given cs in-rings =
+      let c = getD cs i (both 0) in
+      let row′ = row f i (take (16 * f) (drop f w)) in
+      let within = cursors-at ls cs in-rings i (omega (arith, fits .some, ring-holds .0)) in
+      let lr : length (ringAt ls 0 i store) ≡ l = ap length (ring-at ls i store) ∙ part-long start store l ring-within in
+      let lo : length row′ ≡ f = ap length (sym (read-at f i w h fits)) ∙ part-long (f + i * f) w f row-within in
+      let m : Moves l c f = record {
+        ready = record { some = omega (arith, fits .some, ring-holds .0); small = ring-holds .1; reads = within .read; writes = within .write };
+        some = fits .some;
+        fits = ring-holds .0;
+      } in
+      get-ok (ringAt ls 0 i store) row′ c (rw (lr, lo) m) .1 ∙ ap (read (ringAt ls 0 i store) (c .read .0)) lo

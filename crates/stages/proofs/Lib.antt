@@ -1,0 +1,4 @@
+pub mod RowTurns
+pub mod RowLaws
+pub mod Moved
+pub mod FrameLaws

@@ -1,0 +1,120 @@
+-- One frame, step by step, with a name for what each stage gives.
+use Prim.Native.Nat.{ℕ, _+_, _*_, _/_}
+use mathlib.Core.Bool.{Bool, cond}
+use mathlib.Core.List.{List, _++_, map}
+use lib.Ieee.{Float}
+use lib.ListN.{getD, take, drop, replicate}
+use Rattle.samples.specs.Binary32.{_⊘_, +0}
+use Rattle.delay.specs.declared.Cursors.{Cursors}
+use Rattle.delay.specs.Calls.{both}
+use Rattle.hadamard.specs.Rows.{mixedRows}
+use Rattle.iir.specs.declared.Filter.{Filter}
+use Rattle.iir.specs.Runs.{runOut, bandsEnd}
+use Rattle.unit.specs.UnitState.{UnitState}
+use Rattle.unit.specs.Model.{Model}
+use Rattle.unit.specs.Sizes.{lengths, total}
+use Rattle.allpass.specs.Passes.{Stage, passOut, passEnd}
+use Rattle.stages.specs.Lines.{noFilter, readRows, bandRows, bandEnds, addRows, sumRows, three, threeOf}
+
+-- a list cut into stretches of the lengths ls: stretch k
+unfoldable pub stretch : List ℕ → ℕ → List Float → List Float
+stretch ls k xs = take (getD ls k 0) (drop (total (take k ls)) xs)
+
+-- the allpass stage whose x ring is stretch k of `rings` and whose y ring is the next one
+abbrev pub stageAt : List ℕ → List Cursors → List Float → ℕ → Stage
+stageAt ls cs rings k = record {
+  x = stretch ls k rings;
+  xs = getD cs k (both 0);
+  y = stretch ls (k + 1) rings;
+  ys = getD cs (k + 1) (both 0);
+}
+
+abbrev pub ringsOf : Stage → Stage → List Float
+ringsOf s t = s .x ++ (s .y ++ (t .x ++ t .y))
+
+-- what step 4 gives, a name for each stage's rows, and the lines' filters after it
+pub record LineRows : Type 0 where
+  pub mixed : List Float
+  pub band0 : List Float
+  pub band1 : List Float
+  pub band2 : List Float
+  pub put : List Float
+  pub filters : List Filter
+
+-- steps 3 and 4 of n lines, the mix's factor k, from the rows that were read: a tail adds no input
+unfoldable pub lineRows : ℕ → ℕ → Float → Bool → List Filter → List Float → List Float → LineRows
+lineRows n f k tail fs input reads =
+    let mixed = mixedRows n f k reads in
+    let band0 = bandRows f n 0 fs mixed in
+    let band1 = bandRows f n 1 fs band0 in
+    let band2 = bandRows f n 2 fs band1 in
+    record {
+      mixed = mixed;
+      band0 = band0;
+      band1 = band1;
+      band2 = band2;
+      put = cond tail band2 (addRows f n input band2);
+      filters = bandEnds f n 0 fs mixed;
+    }
+
+-- what step 5 gives, a name for each stage's row, the allpass rings and the tone's filters after it
+pub record OutputRow : Type 0 where
+  pub sum : List Float
+  pub pass0 : List Float
+  pub pass1 : List Float
+  pub tone0 : List Float
+  pub tone1 : List Float
+  pub out : List Float
+  pub rings : List Float
+  pub filters : List Filter
+
+-- step 5 of n lines, the sum divided by d, from the rows that were read and the allpass rings with their lengths ls and cursors cs
+unfoldable pub outputRow : ℕ → ℕ → Float → List ℕ → List Cursors → List Filter → List Float → List Float → OutputRow
+outputRow n f d ls cs fs rings reads =
+    let k = 3 * n in
+    let sum = map (λ x. x ⊘ d) (sumRows f n (replicate f +0) reads) in
+    let s0 = stageAt ls cs rings 0 in
+    let s1 = stageAt ls cs rings 2 in
+    let pass0 = passOut (f / 4) s0 sum in
+    let pass1 = passOut (f / 4) s1 pass0 in
+    let tone0 = runOut (getD fs k noFilter) pass1 in
+    let tone1 = runOut (getD fs (k + 1) noFilter) tone0 in
+    record {
+      sum = sum;
+      pass0 = pass0;
+      pass1 = pass1;
+      tone0 = tone0;
+      tone1 = tone1;
+      out = runOut (getD fs (k + 2) noFilter) tone1;
+      rings = ringsOf (passEnd (f / 4) s0 sum) (passEnd (f / 4) s1 pass0);
+      filters = threeOf (bandsEnd (three k fs) pass1);
+    }
+
+-- a frame: the rows that were read, and what steps 4 and 5 give of them
+pub record Frame : Type 0 where
+  pub reads : List Float
+  pub lines : LineRows
+  pub output : OutputRow
+
+-- "All 51 filters": the lines' and then the tone's
+abbrev pub newFilters : Frame → List Filter
+newFilters r = r .lines .filters ++ r .output .filters
+
+unfoldable pub frameFrom : Model → ℕ → Bool → List Cursors → List Filter → List Float → List Float → List Float → Frame
+frameFrom m f tail cs fs input rings reads = record {
+  reads = reads;
+  lines = lineRows (m .lines) f (m .factor) tail fs input reads;
+  output = outputRow (m .lines) f (m .divisor) (m .passes) cs fs rings reads;
+}
+
+-- the allpass rings, which lie after lines' rings of the lengths ls
+abbrev pub passesIn : List ℕ → List Float → List Float
+passesIn ls store = drop (total ls) store
+
+-- the frame on the rings of a store: the lines' of the lengths ls with the cursors cs, and the allpass rings with qs
+abbrev pub frameIn : Model → ℕ → List ℕ → Bool → List Cursors → List Cursors → List Filter → List Float → List Float → Frame
+frameIn m f ls tail cs qs fs input store = frameFrom m f tail qs fs input (passesIn ls store) (readRows f (m .lines) 0 ls cs store)
+
+-- the frame of a unit u
+abbrev pub frameOf : Model → Bool → UnitState → List Filter → List Float → List Float → Frame
+frameOf m tail u fs input store = frameIn m (u .settings .frame) (lengths m u) tail (u .cursors .lines) (u .cursors .passes) fs input store
