@@ -5,6 +5,8 @@ use frame::Stepped;
 use iir::Filter;
 use samples::Answer;
 use samples::Frames;
+use unit::FILTERS;
+use unit::LINES;
 use unit::Outcome;
 use unit::State;
 use unit::fresh_state;
@@ -18,10 +20,10 @@ ghost use Rattle.closing.specs.Workers.{idle, concluded};
 // The unit with no frame open, and other cursors, filters and another count.
 pub(crate) fn idle(
     s: State,
-    lines: [Cursors; 16],
+    lines: [Cursors; LINES],
     passes: [Cursors; 4],
     count: Frames,
-    filters: [Filter; 51],
+    filters: [Filter; FILTERS],
 ) -> State
     ensures { λ r. ⌜ r ≡ toState (idle (ofState s) (record { lines = lines; passes = passes }) (count .0) filters) ⌝ }
 {

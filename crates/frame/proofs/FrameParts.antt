@@ -18,8 +18,7 @@ use Rattle.stages.proofs.RowLaws.{length-readRows}
 use Rattle.stages.proofs.FrameLaws.{put-beside, out-long}
 use Rattle.delay.specs.declared.Cursors.{Cursors}
 use Rattle.unit.specs.Sizes.{total}
-use Rattle.frame.specs.Work.{framed, frameBy, FrameFits, SettleFits}
-use Rattle.frame.specs.Steps.{judgedStore, judgedOut}
+use Rattle.frame.specs.Workers.{framed, frameBy, FrameFits, SettleFits, judgedStore, judgedOut}
 use Rattle.frame.proofs.LineLaws.{lines-held}
 
 module _ (f m : ℕ) (input : List Float) (r : Frame) (w : List Float) (e : w ≡ framed input r)

@@ -9,7 +9,7 @@ use Rattle.samples.proofs.Turns.{more, next, stored}
 use Rattle.delay.specs.declared.Cursors.{Cursors}
 use Rattle.delay.specs.Calls.{both}
 use Rattle.stages.specs.Settle.{movedBy, allMoved}
-use Rattle.frame.specs.Work.{Within}
+use Rattle.frame.specs.Workers.{Within}
 
 -- ---- the cursors moved: those of the rings from i on are as they were
 

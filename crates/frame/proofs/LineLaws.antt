@@ -11,7 +11,7 @@ use Rattle.delay.proofs.Laws.{Moves}
 use Rattle.stages.proofs.RowLaws.{Held}
 use Rattle.samples.proofs.Turns.{more}
 use Rattle.samples.proofs.Rows.{Left, row-fits}
-use Rattle.frame.specs.Work.{Rings}
+use Rattle.frame.specs.Workers.{Rings}
 
 -- ---- the rings of n lines
 

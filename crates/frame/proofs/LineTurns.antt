@@ -21,7 +21,7 @@ use Rattle.stages.specs.Lines.{readRows}
 use Rattle.stages.specs.Settle.{putRows}
 use Rattle.stages.specs.Steps.{copied}
 use Rattle.stages.proofs.RowLaws.{total-more, copied-all, put-rings, length-putRows}
-use Rattle.frame.specs.Work.{Rings}
+use Rattle.frame.specs.Workers.{Rings}
 use Rattle.frame.proofs.LineLaws.{lines-held, here, moves}
 
 -- ---- a frame read of each line: a is where line i's ring begins, b where its row does

@@ -23,7 +23,7 @@ use Rattle.unit.proofs.Ranges.{Below, cursors-at, holds-at}
 use Rattle.rows.proofs.RowsOf.{work-parts}
 use Rattle.stages.specs.Frame.{Frame, frameFrom, frameIn}
 use Rattle.stages.proofs.RowLaws.{total-more}
-use Rattle.frame.specs.Work.{Rings, Within, WholeFits, frameBy}
+use Rattle.frame.specs.Workers.{Rings, Within, WholeFits, frameBy}
 
 -- rings that hold a frame, with their cursors within them
 module _ (f : ℕ) (ls : List ℕ) (cs : List Cursors) (some : 0 < f) (hold : ringsHold f ls ≡ true) (all : cursorsIn ls cs ≡ true) where

@@ -25,7 +25,7 @@ use Rattle.rows.specs.Steps.{linesEnds, linesLaid}
 use Rattle.rows.proofs.RowFits.{lines-yes, output-yes}
 use Rattle.rows.proofs.RowJoins.{filters-long}
 use Rattle.outputs.specs.Steps.{outputFrom, outputMade, outputAfter}
-use Rattle.frame.specs.Work.{FrameFits, frameBy, framed}
+use Rattle.frame.specs.Workers.{FrameFits, frameBy, framed}
 
 -- ---- step 5 where the lines' filters are those after step 4: it looks at the others alone
 

@@ -1,3 +1,3 @@
-pub mod Work
 pub mod Parts
 pub mod Steps
+pub mod Workers

@@ -14,7 +14,6 @@ use Rattle.stages.specs.Settle.{frameFinite, putRows, allMoved}
 use Rattle.rows.specs.Rows.{Rows, rowsOf}
 use Rattle.frame.specs.Parts.{rowsFinite}
 use Rattle.frame.specs.declared.Stepped.{Stepped}
-use Rattle.frame.specs.declared.whole.Judged.{Judged}
 
 -- what the caller is given, and what is left of the store, the work memory and the output
 pub record Left : Type 0 where
@@ -65,16 +64,3 @@ finished m f ls cs qs fs store work output =
     cond (roomOk m f ls cs qs (length store) (length work) (length output))
     (finishedWithRoom m f ls cs qs fs store work output)
     (untouched cs qs fs store work output)
-
--- ---- a frame of n lines that lies in the work memory, where the judgement 9 is made of it
-
-abbrev pub judgedOf : Frame → Judged
-judgedOf r = record { ok = frameFinite r; filters = newFilters r }
-
--- its rows in the lines and its allpass rings after them, if all of it is finite
-unfoldable pub judgedStore : ℕ → ℕ → List ℕ → List Cursors → Frame → List Float → List Float
-judgedStore n f ls cs r store = cond (frameFinite r) (putRows f n 0 ls cs (r .lines .put) (r .output .rings) store) store
-
--- its output, if all of it is finite
-unfoldable pub judgedOut : Frame → List Float → List Float
-judgedOut r output = cond (frameFinite r) (r .output .out) output

@@ -12,6 +12,10 @@ use crate::whole::finish_frame;
 use crate::whole::judge_frame;
 use delay::Cursors;
 use iir::Filter;
+use unit::DIVISOR;
+use unit::FACTOR;
+use unit::FILTERS;
+use unit::LINES;
 use unit::PASSES;
 use unit::room_ok;
 ghost use mathlib.Core.Path.{_≡_};
@@ -19,15 +23,15 @@ ghost use Prim.Native.Nat.{_≤_};
 ghost use lib.ListN.{length};
 ghost use Rattle.unit.specs.Model.{wall};
 ghost use Rattle.stages.specs.Settle.{allMoved};
-ghost use Rattle.frame.specs.Work.{Within, WholeFits};
+ghost use Rattle.frame.specs.Workers.{Within, WholeFits};
 ghost use Rattle.frame.specs.Steps.{ran, ranWithRoom, finished, finishedWithRoom};
 
 // What a frame came to: whether all of it is finite, its filters, and the cursors of the rings after
 // it.
 pub struct Stepped {
     pub ok: bool,
-    pub filters: [Filter; 51],
-    pub lines: [Cursors; 16],
+    pub filters: [Filter; FILTERS],
+    pub lines: [Cursors; LINES],
     pub passes: [Cursors; 4],
 }
 
@@ -37,11 +41,11 @@ pub struct Stepped {
 // Where the memory lent has no room for it nothing is done.
 pub fn run_frame(
     f: usize,
-    ls: [usize; 16],
+    ls: [usize; LINES],
     tail: bool,
-    cs: [Cursors; 16],
+    cs: [Cursors; LINES],
     qs: [Cursors; 4],
-    fs: [Filter; 51],
+    fs: [Filter; FILTERS],
     store: &mut [f32],
     work: &mut [f32],
     output: &mut [f32],
@@ -65,11 +69,11 @@ pub fn run_frame(
 // The same in memory that has room for it.
 fn wall_frame(
     f: usize,
-    ls: [usize; 16],
+    ls: [usize; LINES],
     tail: bool,
-    cs: [Cursors; 16],
+    cs: [Cursors; LINES],
     qs: [Cursors; 4],
-    fs: [Filter; 51],
+    fs: [Filter; FILTERS],
     store: &mut [f32],
     work: &mut [f32],
     output: &mut [f32],
@@ -81,10 +85,10 @@ fn wall_frame(
     ensures { λ _. ⌜ now (output .exit) ≡ ranWithRoom wall f ls tail cs qs fs (now (store .entry)) (now (work .entry)) (now (output .entry)) .output ⌝ }
 {
     let r = judge_frame(
-        16,
+        LINES,
         f,
-        0.25,
-        16.0,
+        FACTOR,
+        DIVISOR,
         tail,
         ls,
         cs,
@@ -103,15 +107,15 @@ fn wall_frame(
 fn moved_on(
     ok: bool,
     f: usize,
-    ls: [usize; 16],
-    cs: [Cursors; 16],
+    ls: [usize; LINES],
+    cs: [Cursors; LINES],
     qs: [Cursors; 4],
-    fs: [Filter; 51],
+    fs: [Filter; FILTERS],
 ) -> Stepped
-    requires { ⌜ (f ≤ 1024) × Within 16 0 ls cs × Within 4 0 (wall .passes) qs ⌝ }
+    requires { ⌜ (f ≤ 1024) × Within (wall .lines) 0 ls cs × Within (length (wall .passes)) 0 (wall .passes) qs ⌝ }
     ensures { λ r. ⌜ r ≡ record { ok = ok; filters = fs; lines = allMoved f ls cs; passes = allMoved f (wall .passes) qs } ⌝ }
 {
-    let lines = move_lines(16, f, ls, cs);
+    let lines = move_lines(LINES, f, ls, cs);
     let passes = move_passes(f, PASSES, qs);
     Stepped {
         ok,
@@ -126,10 +130,10 @@ fn moved_on(
 // nothing is done.
 pub fn close_frame(
     f: usize,
-    ls: [usize; 16],
-    cs: [Cursors; 16],
+    ls: [usize; LINES],
+    cs: [Cursors; LINES],
     qs: [Cursors; 4],
-    fs: [Filter; 51],
+    fs: [Filter; FILTERS],
     store: &mut [f32],
     work: &mut [f32],
     output: &mut [f32],
@@ -153,10 +157,10 @@ pub fn close_frame(
 // The same in memory that has room for it.
 fn wall_close(
     f: usize,
-    ls: [usize; 16],
-    cs: [Cursors; 16],
+    ls: [usize; LINES],
+    cs: [Cursors; LINES],
     qs: [Cursors; 4],
-    fs: [Filter; 51],
+    fs: [Filter; FILTERS],
     store: &mut [f32],
     work: &mut [f32],
     output: &mut [f32],
@@ -167,6 +171,6 @@ fn wall_close(
     ensures { λ _. ⌜ now (work .exit) ≡ finishedWithRoom wall f ls cs qs fs (now (store .entry)) (now (work .entry)) (now (output .entry)) .work ⌝ }
     ensures { λ _. ⌜ now (output .exit) ≡ finishedWithRoom wall f ls cs qs fs (now (store .entry)) (now (work .entry)) (now (output .entry)) .output ⌝ }
 {
-    let ok = finish_frame(16, f, ls, cs, fs, store, work, output);
+    let ok = finish_frame(LINES, f, ls, cs, fs, store, work, output);
     moved_on(ok, f, ls, cs, qs, fs)
 }

@@ -4,21 +4,23 @@
 // unit of fewer lines pads.
 use delay::Cursors;
 use samples::Samples;
+use unit::LINES;
 ghost use mathlib.Core.Path.{_≡_};
 ghost use mathlib.Core.List.{_++_};
 ghost use Prim.Native.Nat.{_+_, _-_, _<_, _≤_};
 ghost use lib.ListN.{length, take, drop};
+ghost use Rattle.unit.specs.Model.{wall};
 ghost use Rattle.unit.specs.Sizes.{total};
 ghost use Rattle.stages.specs.Lines.{readRows};
 ghost use Rattle.stages.specs.Settle.{putRows, movedBy, allMoved};
-ghost use Rattle.frame.specs.Work.{LinesFit, Within};
+ghost use Rattle.frame.specs.Workers.{LinesFit, Within};
 
 // Reads a frame of each line, row after row.
 pub(crate) fn read_lines(
     n: usize,
     f: usize,
-    ls: [usize; 16],
-    cs: [Cursors; 16],
+    ls: [usize; LINES],
+    cs: [Cursors; LINES],
     store: &[f32],
     rows: &mut [f32],
 )
@@ -41,8 +43,8 @@ pub(crate) fn read_lines(
 pub(crate) fn put_lines(
     n: usize,
     f: usize,
-    ls: [usize; 16],
-    cs: [Cursors; 16],
+    ls: [usize; LINES],
+    cs: [Cursors; LINES],
     rows: &[f32],
     store: &mut [f32],
 )
@@ -74,8 +76,8 @@ pub(crate) fn put_rings(rings: &[f32], store: &mut [f32])
 pub(crate) fn settle(
     n: usize,
     f: usize,
-    ls: [usize; 16],
-    cs: [Cursors; 16],
+    ls: [usize; LINES],
+    cs: [Cursors; LINES],
     rows: &[f32],
     rings: &[f32],
     store: &mut [f32],
@@ -89,8 +91,13 @@ pub(crate) fn settle(
 }
 
 // The cursors of n lines after a frame.
-pub(crate) fn move_lines(n: usize, f: usize, ls: [usize; 16], cs: [Cursors; 16]) -> [Cursors; 16]
-    requires { ⌜ (n ≤ 16) × (f ≤ 65536) × Within n 0 ls cs ⌝ }
+pub(crate) fn move_lines(
+    n: usize,
+    f: usize,
+    ls: [usize; LINES],
+    cs: [Cursors; LINES],
+) -> [Cursors; LINES]
+    requires { ⌜ (n ≤ wall .lines) × (f ≤ 65536) × Within n 0 ls cs ⌝ }
     ensures { λ r. ⌜ r ≡ allMoved f (take n ls) cs ⌝ }
 {
     let mut ds = cs;

@@ -9,23 +9,25 @@ use rows::line_rows;
 use samples::and;
 use samples::clear;
 use search::all_finite;
+use unit::FILTERS;
+use unit::LINES;
 ghost use mathlib.Core.Path.{_≡_};
-ghost use mathlib.Core.Bool.{_&&_, cond};
+ghost use mathlib.Core.Bool.{cond};
 ghost use mathlib.Core.List.{_++_};
 ghost use Prim.Native.Nat.{_+_, _*_, _<_, _≤_};
 ghost use lib.ListN.{length, take, drop, replicate};
 ghost use Rattle.samples.specs.Binary32.{+0};
-ghost use Rattle.search.specs.Search.{allFinite};
+ghost use Rattle.unit.specs.Model.{wall};
+ghost use Rattle.unit.specs.Sizes.{filtersLen};
 ghost use Rattle.stages.specs.Lines.{readRows};
 ghost use Rattle.stages.specs.Frame.{lineRows, newFilters};
-ghost use Rattle.stages.specs.Settle.{filtersFinite, putRows};
-ghost use Rattle.frame.specs.Work.{LinesFit, SettleFits, FrameFits, frameBy, framed};
-ghost use Rattle.frame.specs.Steps.{judgedOf, judgedStore, judgedOut};
+ghost use Rattle.frame.specs.Workers.{LinesFit, SettleFits, FrameFits, frameBy, framed, finiteIn, putIn, outIn};
+ghost use Rattle.frame.specs.Workers.{judgedOf, judgedStore, judgedOut};
 
 // What a frame in the work memory came to: whether all of it is finite, and its filters.
 pub(crate) struct Judged {
     pub(crate) ok: bool,
-    pub(crate) filters: [Filter; 51],
+    pub(crate) filters: [Filter; FILTERS],
 }
 
 // Steps 2 to 4: `rows` are the input, and become the input, n rows read and n to put. Gives the
@@ -35,12 +37,12 @@ pub(crate) fn play_lines(
     f: usize,
     factor: f32,
     tail: bool,
-    ls: [usize; 16],
-    cs: [Cursors; 16],
-    fs: [Filter; 51],
+    ls: [usize; LINES],
+    cs: [Cursors; LINES],
+    fs: [Filter; FILTERS],
     store: &[f32],
     rows: &mut [f32],
-) -> [Filter; 51]
+) -> [Filter; FILTERS]
     requires { ⌜ LinesFit n f ls cs (length (now store)) (n * f) ⌝ }
     requires { ⌜ (0 < n) × (length (now rows) ≡ f + n * f + n * f) ⌝ }
     ensures { λ r. ⌜ r ≡ lineRows n f factor tail fs (take f (now (rows .entry))) (readRows f n 0 ls cs (now (store .entry))) .filters ++ drop (3 * n) fs ⌝ }
@@ -58,14 +60,14 @@ pub(crate) fn frame_rows(
     factor: f32,
     divisor: f32,
     tail: bool,
-    ls: [usize; 16],
-    cs: [Cursors; 16],
+    ls: [usize; LINES],
+    cs: [Cursors; LINES],
     ps: [usize; 4],
     qs: [Cursors; 4],
-    fs: [Filter; 51],
+    fs: [Filter; FILTERS],
     store: &[f32],
     work: &mut [f32],
-) -> [Filter; 51]
+) -> [Filter; FILTERS]
     requires { ⌜ FrameFits n f ls cs ps (length (now store)) (length (now work)) ⌝ }
     ensures { λ r. ⌜ r ≡ newFilters (frameBy n f factor divisor tail ls cs ps qs fs (take f (now (work .entry))) (now (store .entry))) ++ drop (3 * n + 3) fs ⌝ }
     ensures { λ _. ⌜ now (work .exit) ≡ framed (take f (now (work .entry))) (frameBy n f factor divisor tail ls cs ps qs fs (take f (now (work .entry))) (now (store .entry))) ⌝ }
@@ -80,9 +82,9 @@ pub(crate) fn frame_rows(
 
 // Whether all that a frame would keep or hand out is finite: the filters, and the work memory from
 // the rows to put on.
-pub(crate) fn frame_finite(n: usize, f: usize, fs: [Filter; 51], work: &[f32]) -> bool
+pub(crate) fn frame_finite(n: usize, f: usize, fs: [Filter; FILTERS], work: &[f32]) -> bool
     requires { ⌜ f + n * f ≤ length (now work) ⌝ }
-    ensures { λ r. ⌜ r ≡ (filtersFinite fs && allFinite (drop (f + n * f) (now (work .entry)))) ⌝ }
+    ensures { λ r. ⌜ r ≡ finiteIn n f fs (now (work .entry)) ⌝ }
 {
     let at = f + n * f;
     and(stages::filters_finite(fs), all_finite(&work[at..], f))
@@ -92,15 +94,15 @@ pub(crate) fn frame_finite(n: usize, f: usize, fs: [Filter; 51], work: &[f32]) -
 pub(crate) fn settle_frame(
     n: usize,
     f: usize,
-    ls: [usize; 16],
-    cs: [Cursors; 16],
+    ls: [usize; LINES],
+    cs: [Cursors; LINES],
     work: &[f32],
     store: &mut [f32],
     output: &mut [f32],
 )
     requires { ⌜ SettleFits n f ls cs (length (now store)) (length (now work)) (length (now output)) ⌝ }
-    ensures { λ _. ⌜ now (store .exit) ≡ putRows f n 0 ls cs (take (n * f) (drop (f + n * f) (now (work .entry)))) (drop (f + n * f + n * f + f) (now (work .entry))) (now (store .entry)) ⌝ }
-    ensures { λ _. ⌜ now (output .exit) ≡ take f (drop (f + n * f + n * f) (now (work .entry))) ⌝ }
+    ensures { λ _. ⌜ now (store .exit) ≡ putIn n f ls cs (now (work .entry)) (now (store .entry)) ⌝ }
+    ensures { λ _. ⌜ now (output .exit) ≡ outIn n f (now (work .entry)) ⌝ }
 {
     let a = f + n * f;
     let p = a + n * f;
@@ -114,15 +116,15 @@ pub(crate) fn settle_if(
     ok: bool,
     n: usize,
     f: usize,
-    ls: [usize; 16],
-    cs: [Cursors; 16],
+    ls: [usize; LINES],
+    cs: [Cursors; LINES],
     work: &[f32],
     store: &mut [f32],
     output: &mut [f32],
 )
     requires { ⌜ SettleFits n f ls cs (length (now store)) (length (now work)) (length (now output)) ⌝ }
-    ensures { λ _. ⌜ now (store .exit) ≡ cond ok (putRows f n 0 ls cs (take (n * f) (drop (f + n * f) (now (work .entry)))) (drop (f + n * f + n * f + f) (now (work .entry))) (now (store .entry))) (now (store .entry)) ⌝ }
-    ensures { λ _. ⌜ now (output .exit) ≡ cond ok (take f (drop (f + n * f + n * f) (now (work .entry)))) (now (output .entry)) ⌝ }
+    ensures { λ _. ⌜ now (store .exit) ≡ cond ok (putIn n f ls cs (now (work .entry)) (now (store .entry))) (now (store .entry)) ⌝ }
+    ensures { λ _. ⌜ now (output .exit) ≡ cond ok (outIn n f (now (work .entry))) (now (output .entry)) ⌝ }
 {
     if !ok {
         return;
@@ -135,18 +137,18 @@ pub(crate) fn settle_if(
 pub(crate) fn finish_frame(
     n: usize,
     f: usize,
-    ls: [usize; 16],
-    cs: [Cursors; 16],
-    fs: [Filter; 51],
+    ls: [usize; LINES],
+    cs: [Cursors; LINES],
+    fs: [Filter; FILTERS],
     store: &mut [f32],
     work: &mut [f32],
     output: &mut [f32],
 ) -> bool
     requires { ⌜ SettleFits n f ls cs (length (now store)) (length (now work)) (length (now output)) ⌝ }
-    ensures { λ r. ⌜ r ≡ (filtersFinite fs && allFinite (drop (f + n * f) (now (work .entry)))) ⌝ }
-    ensures { λ _. ⌜ now (store .exit) ≡ cond (filtersFinite fs && allFinite (drop (f + n * f) (now (work .entry)))) (putRows f n 0 ls cs (take (n * f) (drop (f + n * f) (now (work .entry)))) (drop (f + n * f + n * f + f) (now (work .entry))) (now (store .entry))) (now (store .entry)) ⌝ }
+    ensures { λ r. ⌜ r ≡ finiteIn n f fs (now (work .entry)) ⌝ }
+    ensures { λ _. ⌜ now (store .exit) ≡ cond (finiteIn n f fs (now (work .entry))) (putIn n f ls cs (now (work .entry)) (now (store .entry))) (now (store .entry)) ⌝ }
     ensures { λ _. ⌜ now (work .exit) ≡ replicate (length (now (work .entry))) +0 ⌝ }
-    ensures { λ _. ⌜ now (output .exit) ≡ cond (filtersFinite fs && allFinite (drop (f + n * f) (now (work .entry)))) (take f (drop (f + n * f + n * f) (now (work .entry)))) (now (output .entry)) ⌝ }
+    ensures { λ _. ⌜ now (output .exit) ≡ cond (finiteIn n f fs (now (work .entry))) (outIn n f (now (work .entry))) (now (output .entry)) ⌝ }
 {
     let ok = frame_finite(n, f, fs, work);
     settle_if(ok, n, f, ls, cs, work, store, output);
@@ -162,17 +164,17 @@ pub(crate) fn judge_frame(
     factor: f32,
     divisor: f32,
     tail: bool,
-    ls: [usize; 16],
-    cs: [Cursors; 16],
+    ls: [usize; LINES],
+    cs: [Cursors; LINES],
     ps: [usize; 4],
     qs: [Cursors; 4],
-    fs: [Filter; 51],
+    fs: [Filter; FILTERS],
     store: &mut [f32],
     work: &mut [f32],
     output: &mut [f32],
 ) -> Judged
     requires { ⌜ FrameFits n f ls cs ps (length (now store)) (length (now work)) ⌝ }
-    requires { ⌜ (length (now output) ≡ f) × (3 * n + 3 ≡ 51) ⌝ }
+    requires { ⌜ (length (now output) ≡ f) × (3 * n + 3 ≡ filtersLen wall) ⌝ }
     ensures { λ r. ⌜ r ≡ judgedOf (frameBy n f factor divisor tail ls cs ps qs fs (take f (now (work .entry))) (now (store .entry))) ⌝ }
     ensures { λ _. ⌜ now (store .exit) ≡ judgedStore n f ls cs (frameBy n f factor divisor tail ls cs ps qs fs (take f (now (work .entry))) (now (store .entry))) (now (store .entry)) ⌝ }
     ensures { λ _. ⌜ now (work .exit) ≡ replicate (length (now (work .entry))) +0 ⌝ }

@@ -27,7 +27,8 @@ use Rattle.unit.specs.Room.{ringsHold}
 use Rattle.unit.proofs.Ranges.{lengths-long}
 use Rattle.judges.specs.Judges.{judged, workOk}
 use Rattle.rows.specs.Rows.{rowsOf, joined}
-use Rattle.rows.specs.Fits.{workFor, WorkFits}
+use Rattle.rows.specs.Fits.{workFor}
+use Rattle.rows.specs.Workers.{WorkFits}
 use Rattle.rows.specs.Parts.{lineLaid, lineEnds}
 use Rattle.rows.proofs.RowsOf.{all-rows}
 use Rattle.outputs.specs.Parts.{outputLaid, outputEnds}

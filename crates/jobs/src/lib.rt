@@ -1,4 +1,4 @@
-// The 34 jobs of an open frame: each call takes the state by value and gives it back.
+// The jobs of an open frame: each call takes the state by value and gives it back.
 //
 // Its contracts cite the machine: how each job ends.
 mod steps;
@@ -13,6 +13,9 @@ use outputs::make_output;
 use rows::make_line;
 use rows::read_line;
 use samples::is_accepted;
+use unit::LINE_MARK;
+use unit::MIX_MARK;
+use unit::OUTPUT_MARK;
 use unit::Outcome;
 use unit::State;
 use unit::lengths;
@@ -53,7 +56,7 @@ pub fn job_mix(s: State, work: &mut [f32]) -> Outcome
     let f = s.frame;
     let fs = s.filters;
     mix_rows(f, work);
-    quiet(answer, marked(s, 16, fs))
+    quiet(answer, marked(s, MIX_MARK, fs))
 }
 
 // Sends a line mixed through its bands, and adds the input to it unless in a tail.
@@ -69,7 +72,7 @@ pub fn job_line(s: State, line: usize, work: &mut [f32]) -> Outcome
     let tail = s.tail;
     let fs = s.filters;
     let gs = make_line(line, f, tail, fs, work);
-    quiet(answer, marked(s, 17 + line, gs))
+    quiet(answer, marked(s, LINE_MARK + line, gs))
 }
 
 // Makes the output of the lines read.
@@ -85,5 +88,5 @@ pub fn job_output(s: State, work: &mut [f32]) -> Outcome
     let qs = s.passes;
     let fs = s.filters;
     let gs = make_output(f, qs, fs, work);
-    quiet(answer, marked(s, 33, gs))
+    quiet(answer, marked(s, OUTPUT_MARK, gs))
 }

@@ -1,17 +1,22 @@
 // What a job does to its own rows of the work memory, and to its mark.
 use iir::Filter;
+use unit::FACTOR;
+use unit::FILTERS;
+use unit::LINES;
+use unit::OUTPUT_ROW;
 use unit::State;
 ghost use mathlib.Core.Path.{_≡_};
 ghost use Prim.Native.Nat.{_<_};
 ghost use lib.ListN.{length};
 ghost use Rattle.unit.specs.UnitState.{ofState, toState};
 ghost use Rattle.unit.specs.Model.{wall};
-ghost use Rattle.rows.specs.Fits.{WorkFits};
+ghost use Rattle.unit.specs.Sizes.{jobsLen};
+ghost use Rattle.rows.specs.Workers.{WorkFits};
 ghost use Rattle.machine.specs.Jobs.{unitMarked, mixLaid};
 
 // The unit with the job of mark k done, and its filters then.
-pub(crate) fn marked(s: State, k: usize, filters: [Filter; 51]) -> State
-    requires { ⌜ k < 34 ⌝ }
+pub(crate) fn marked(s: State, k: usize, filters: [Filter; FILTERS]) -> State
+    requires { ⌜ k < jobsLen wall ⌝ }
     ensures { λ r. ⌜ r ≡ toState (unitMarked (ofState s) k filters) ⌝ }
 {
     let mut t = s;
@@ -25,6 +30,6 @@ pub(crate) fn mix_rows(f: usize, work: &mut [f32])
     requires { ⌜ WorkFits wall f (length (now work)) ⌝ }
     ensures { λ _. ⌜ now (work .exit) ≡ mixLaid wall f (now (work .entry)) ⌝ }
 {
-    let e = 33 * f;
-    mixer::mix_rows(16, 0.25, &mut work[f..e]);
+    let e = OUTPUT_ROW * f;
+    mixer::mix_rows(LINES, FACTOR, &mut work[f..e]);
 }

@@ -24,6 +24,8 @@ pub use turns::judge_open_apply;
 pub use turns::judge_open_tail;
 pub use turns::judge_output;
 pub use turns::judge_read;
+use unit::COEFFICIENTS;
+use unit::PER_FILTER;
 use unit::State;
 use unit::in_range;
 use unit::lent_ok;
@@ -97,7 +99,7 @@ pub fn judge_apply(
 {
     let frame = s.frame;
     let busy = s.busy;
-    let given = and(coefficients.len() == 255, input.len() == frame);
+    let given = and(coefficients.len() == COEFFICIENTS, input.len() == frame);
     let lent = and(given, lent_ok(frame, store, work, output));
     or_else(
         judge(s, lent, true, !busy),
@@ -113,7 +115,7 @@ pub(crate) fn judge_given(t: Times, coefficients: &[f32], input: &[f32]) -> Answ
         times_ok(t),
         Answer::BadTime,
         need(
-            all_finite(coefficients, 5),
+            all_finite(coefficients, PER_FILTER),
             Answer::BadCoefficient,
             bad_input(first_bad(input, 0)),
         ),

@@ -10,6 +10,10 @@ use crate::or_else;
 use bands::Times;
 use samples::Answer;
 use samples::and;
+use unit::COEFFICIENTS;
+use unit::LINES;
+use unit::MIX_MARK;
+use unit::OUTPUT_MARK;
 use unit::State;
 use unit::lent_ok;
 use unit::store_ok;
@@ -32,7 +36,7 @@ pub fn judge_open_apply(
 {
     let frame = s.frame;
     let busy = s.busy;
-    let given = and(coefficients.len() == 255, input.len() == frame);
+    let given = and(coefficients.len() == COEFFICIENTS, input.len() == frame);
     let lent = and(store_ok(frame, store), work_ok(frame, work));
     or_else(
         judge(s, and(given, lent), true, !busy),
@@ -64,7 +68,7 @@ pub fn judge_read(s: State, line: usize, store: usize, work: usize) -> Answer
     judge(
         s,
         and(store_ok(frame, store), work_ok(frame, work)),
-        line < 16,
+        line < LINES,
         and(busy, !marked(marks, line)),
     )
 }
@@ -76,7 +80,7 @@ pub fn judge_mix(s: State, work: usize) -> Answer
     let frame = s.frame;
     let busy = s.busy;
     let marks = s.marks;
-    let turn = and(all_read(marks), !marked(marks, 16));
+    let turn = and(all_read(marks), !marked(marks, MIX_MARK));
     judge(s, work_ok(frame, work), true, and(busy, turn))
 }
 
@@ -87,8 +91,8 @@ pub fn judge_line(s: State, line: usize, work: usize) -> Answer
     let frame = s.frame;
     let busy = s.busy;
     let marks = s.marks;
-    let turn = and(marked(marks, 16), !line_marked(marks, line));
-    judge(s, work_ok(frame, work), line < 16, and(busy, turn))
+    let turn = and(marked(marks, MIX_MARK), !line_marked(marks, line));
+    judge(s, work_ok(frame, work), line < LINES, and(busy, turn))
 }
 
 // The output to be made. It waits for the reads alone.
@@ -98,7 +102,7 @@ pub fn judge_output(s: State, work: usize) -> Answer
     let frame = s.frame;
     let busy = s.busy;
     let marks = s.marks;
-    let turn = and(all_read(marks), !marked(marks, 33));
+    let turn = and(all_read(marks), !marked(marks, OUTPUT_MARK));
     judge(s, work_ok(frame, work), true, and(busy, turn))
 }
 

@@ -19,7 +19,7 @@ use Rattle.unit.specs.Sizes.{lengthsOf, total, storeLen}
 use Rattle.judges.specs.Judges.{storeOk, workOk}
 use Rattle.stages.specs.Steps.{copied}
 use Rattle.stages.proofs.RowLaws.{copied-all}
-use Rattle.rows.specs.Fits.{WorkFits}
+use Rattle.rows.specs.Workers.{WorkFits}
 use Rattle.rows.specs.Rows.{joined}
 use Rattle.frame.proofs.RowJoins.{copy-join}
 use Rattle.rows.proofs.RowsOf.{work-fits}

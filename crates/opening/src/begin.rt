@@ -2,18 +2,21 @@
 use iir::Filter;
 use samples::Frames;
 use samples::clear;
+use unit::FILTERS;
+use unit::JOBS;
+use unit::ROWS;
 use unit::State;
 ghost use mathlib.Core.Path.{_≡_};
 ghost use lib.ListN.{length};
 ghost use Rattle.unit.specs.UnitState.{ofState, toState};
 ghost use Rattle.unit.specs.Model.{wall};
 ghost use Rattle.unit.specs.Sizes.{lengthsOf, storeLen};
-ghost use Rattle.rows.specs.Fits.{WorkFits};
+ghost use Rattle.rows.specs.Workers.{WorkFits};
 ghost use Rattle.machine.specs.Jobs.{unitOpen};
 ghost use Rattle.opening.specs.Workers.{silentLaid};
 
 // The unit with a frame open: its kind, the filters that it begins with and the count to be set.
-pub(crate) fn opened(s: State, tail: bool, filters: [Filter; 51], next: Frames) -> State
+pub(crate) fn opened(s: State, tail: bool, filters: [Filter; FILTERS], next: Frames) -> State
     ensures { λ r. ⌜ r ≡ toState (unitOpen wall (ofState s) tail filters (next .0)) ⌝ }
 {
     let before = s.filters;
@@ -21,7 +24,7 @@ pub(crate) fn opened(s: State, tail: bool, filters: [Filter; 51], next: Frames) 
     t.filters = filters;
     t.busy = true;
     t.tail = tail;
-    t.marks = [false; 34];
+    t.marks = [false; JOBS];
     t.next = next;
     t.before = before;
     t
@@ -34,7 +37,7 @@ pub(crate) fn begin_work(f: usize, store: &[f32], work: &mut [f32])
     ensures { λ _. ⌜ now (work .exit) ≡ silentLaid f (now (store .entry)) ⌝ }
 {
     clear(work);
-    let b = 34 * f;
+    let b = ROWS * f;
     let a = store.len() - (work.len() - b);
     stages::copy(&store[a..], &mut work[b..]);
 }

@@ -17,10 +17,11 @@ use Rattle.unit.specs.Sizes.{total}
 use Rattle.iir.specs.declared.Filter.{Filter}
 use Rattle.iir.specs.Runs.{bandsOut, bandsEnd}
 use Rattle.stages.specs.Lines.{three, threeOf, sumRows}
-use Rattle.stages.specs.Frame.{stretch, stageAt, ringsOf, outputRow}
+use Rattle.stages.specs.Frame.{stretch, stageAt, outputRow}
 use Rattle.allpass.specs.Passes.{Stage, passOut, passEnd}
 use Rattle.allpass.specs.Stages.{staged}
 use Rattle.stages.specs.Steps.{divided}
+use Rattle.outputs.specs.Workers.{bothPassed}
 use Rattle.allpass.proofs.Stages.{length-passOut, pass-rings, staged-laid}
 use Rattle.rows.proofs.RowJoins.{total-next, total-front}
 
@@ -58,14 +59,6 @@ module _ (ps : List ℕ) (rings : List Float) (l : length rings ≡ total ps) wh
       rw (← append-nil (stretch ps 3 rings), ← none, stretch-next 3, stretch-next 2, stretch-next 1) (stretch-next 0)
 
 -- ---- both stages over the row before them
-
--- the row after both stages, and the rings
-abbrev pub bothPassed : ℕ → List ℕ → List Cursors → List Float → List Float → List Float
-bothPassed f ps qs rings row =
-    let s = stageAt ps qs rings 0 in
-    let t = stageAt ps qs rings 2 in
-    let out = passOut (f / 4) s row in
-    passOut (f / 4) t out ++ ringsOf (passEnd (f / 4) s row) (passEnd (f / 4) t out)
 
 pub passes-join : (f : ℕ) (ps : List ℕ) (qs : List Cursors) (w w₁ w₂ : List Float) → f % 4 ≡ 0 → length ps ≡ 4 → length w ≡ f + total ps
     → w₁ ≡ staged f f (getD ps 0 0) (getD ps 1 0) (getD qs 0 (both 0)) (getD qs 1 (both 0)) w

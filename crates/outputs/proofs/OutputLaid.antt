@@ -14,7 +14,7 @@ use Rattle.delay.specs.declared.Cursors.{Cursors}
 use Rattle.iir.specs.declared.Filter.{Filter}
 use Rattle.unit.specs.Model.{wall}
 use Rattle.stages.specs.Frame.{outputRow}
-use Rattle.rows.specs.Fits.{WorkFits}
+use Rattle.rows.specs.Workers.{WorkFits}
 use Rattle.rows.specs.Rows.{rowsOf, joined}
 use Rattle.outputs.specs.Parts.{outputLaid, outputEnds}
 

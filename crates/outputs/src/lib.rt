@@ -10,12 +10,16 @@ use delay::Cursors;
 use iir::Filter;
 use rows::output_fits;
 use rows::work_for;
+use unit::DIVISOR;
+use unit::FILTERS;
+use unit::LINES;
 use unit::PASSES;
 ghost use mathlib.Core.Path.{_≡_};
 ghost use mathlib.Core.Bool.{true};
 ghost use lib.ListN.{length};
 ghost use Rattle.unit.specs.Model.{wall};
-ghost use Rattle.rows.specs.Fits.{workFor, WorkFits};
+ghost use Rattle.rows.specs.Fits.{workFor};
+ghost use Rattle.rows.specs.Workers.{WorkFits};
 ghost use Rattle.outputs.specs.Steps.{outputMade, outputAfter};
 ghost use Rattle.outputs.specs.Parts.{outputLaid, outputEnds};
 
@@ -27,9 +31,9 @@ pub fn output_row(
     divisor: f32,
     ps: [usize; 4],
     qs: [Cursors; 4],
-    fs: [Filter; 51],
+    fs: [Filter; FILTERS],
     rows: &mut [f32],
-) -> [Filter; 51]
+) -> [Filter; FILTERS]
     ensures { λ r. ⌜ r ≡ outputAfter n f divisor ps qs fs (now (rows .entry)) ⌝ }
     ensures { λ _. ⌜ now (rows .exit) ≡ outputMade n f divisor ps qs fs (now (rows .entry)) ⌝ }
 {
@@ -41,7 +45,12 @@ pub fn output_row(
 
 // Step 5 on a work memory that holds the rows read and the allpass rings: makes the output, and gives
 // the filters after it. On memory that isn't one of such frames nothing is done.
-pub fn make_output(f: usize, qs: [Cursors; 4], fs: [Filter; 51], work: &mut [f32]) -> [Filter; 51]
+pub fn make_output(
+    f: usize,
+    qs: [Cursors; 4],
+    fs: [Filter; FILTERS],
+    work: &mut [f32],
+) -> [Filter; FILTERS]
     ensures { λ r. ⌜ r ≡ outputEnds wall f qs fs (workFor wall f (length (now (work .entry)))) (now (work .entry)) ⌝ }
     ensures { λ _. ⌜ now (work .exit) ≡ outputLaid wall f qs fs (workFor wall f (length (now (work .entry)))) (now (work .entry)) ⌝ }
 {
@@ -52,10 +61,15 @@ pub fn make_output(f: usize, qs: [Cursors; 4], fs: [Filter; 51], work: &mut [f32
 }
 
 // The same on memory that is.
-fn wall_output(f: usize, qs: [Cursors; 4], fs: [Filter; 51], work: &mut [f32]) -> [Filter; 51]
+fn wall_output(
+    f: usize,
+    qs: [Cursors; 4],
+    fs: [Filter; FILTERS],
+    work: &mut [f32],
+) -> [Filter; FILTERS]
     requires { ⌜ WorkFits wall f (length (now work)) ⌝ }
     ensures { λ r. ⌜ r ≡ outputEnds wall f qs fs true (now (work .entry)) ⌝ }
     ensures { λ _. ⌜ now (work .exit) ≡ outputLaid wall f qs fs true (now (work .entry)) ⌝ }
 {
-    output_in(16, f, 16.0, PASSES, qs, fs, &mut work[f..])
+    output_in(LINES, f, DIVISOR, PASSES, qs, fs, &mut work[f..])
 }

@@ -3,23 +3,22 @@ use crate::sums::sum_row;
 use delay::Cursors;
 use iir::Filter;
 use rows::three_at;
+use unit::BANDS;
+use unit::FILTERS;
 ghost use mathlib.Core.Path.{_≡_};
 ghost use mathlib.Core.List.{_++_};
-ghost use Prim.Native.Nat.{_+_, _*_, _/_, _%_, _≤_};
+ghost use Prim.Native.Nat.{_+_, _*_, _%_, _≤_};
 ghost use lib.ListN.{length, take, drop};
 ghost use Rattle.samples.specs.Lists.{over};
+ghost use Rattle.unit.specs.Model.{wall};
 ghost use Rattle.unit.specs.Sizes.{total};
-ghost use Rattle.allpass.specs.Passes.{passOut, passEnd};
-ghost use Rattle.stages.specs.Frame.{stageAt, ringsOf};
 ghost use Rattle.outputs.specs.Steps.{outputFrom};
+ghost use Rattle.outputs.specs.Workers.{bothPassed};
 
 // Both allpass stages over a row, after which their four rings lie.
 pub(crate) fn pass_both(f: usize, ps: [usize; 4], qs: [Cursors; 4], rows: &mut [f32])
     requires { ⌜ (f ≤ 65536) × (f % 4 ≡ 0) × (length (now rows) ≡ f + total ps) ⌝ }
-    ensures { λ _. ⌜ now (rows .exit)
-        ≡ passOut (f / 4) (stageAt ps qs (drop f (now (rows .entry))) 2) (passOut (f / 4) (stageAt ps qs (drop f (now (rows .entry))) 0) (take f (now (rows .entry))))
-        ++ ringsOf (passEnd (f / 4) (stageAt ps qs (drop f (now (rows .entry))) 0) (take f (now (rows .entry))))
-        (passEnd (f / 4) (stageAt ps qs (drop f (now (rows .entry))) 2) (passOut (f / 4) (stageAt ps qs (drop f (now (rows .entry))) 0) (take f (now (rows .entry))))) ⌝ }
+    ensures { λ _. ⌜ now (rows .exit) ≡ bothPassed f ps qs (drop f (now (rows .entry))) (take f (now (rows .entry))) ⌝ }
 {
     let lx = ps[0];
     let ly = ps[1];
@@ -42,10 +41,10 @@ pub(crate) fn output_in(
     divisor: f32,
     ps: [usize; 4],
     qs: [Cursors; 4],
-    fs: [Filter; 51],
+    fs: [Filter; FILTERS],
     rows: &mut [f32],
-) -> [Filter; 51]
-    requires { ⌜ (n ≤ 16) × (f ≤ 65536) × (f % 4 ≡ 0) × (length (now rows) ≡ n * f + n * f + f + total ps) ⌝ }
+) -> [Filter; FILTERS]
+    requires { ⌜ (n ≤ wall .lines) × (f ≤ 65536) × (f % 4 ≡ 0) × (length (now rows) ≡ n * f + n * f + f + total ps) ⌝ }
     ensures { λ r. ⌜ r ≡ over (3 * n) (outputFrom n f divisor ps qs fs (now (rows .entry)) .filters) fs ⌝ }
     ensures { λ _. ⌜ now (rows .exit) ≡ take (n * f + n * f) (now (rows .entry)) ++ (outputFrom n f divisor ps qs fs (now (rows .entry)) .out ++ outputFrom n f divisor ps qs fs (now (rows .entry)) .rings) ⌝ }
 {
@@ -54,5 +53,5 @@ pub(crate) fn output_in(
     let e = at + f;
     sum_row(n, f, divisor, &mut rows[0..e]);
     pass_both(f, ps, qs, &mut rows[at..]);
-    three_at(3 * n, fs, &mut rows[at..e])
+    three_at(BANDS * n, fs, &mut rows[at..e])
 }

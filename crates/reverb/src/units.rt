@@ -5,6 +5,7 @@ use frame::run_frame;
 use iir::Filter;
 use samples::Answer;
 use samples::Frames;
+use unit::FILTERS;
 use unit::Outcome;
 use unit::State;
 use unit::lengths;
@@ -53,7 +54,7 @@ pub(crate) fn conclude(s: State, frame: Stepped, count: Frames) -> Outcome
 pub(crate) fn whole_frame(
     s: State,
     tail: bool,
-    fs: [Filter; 51],
+    fs: [Filter; FILTERS],
     count: Frames,
     store: &mut [f32],
     work: &mut [f32],

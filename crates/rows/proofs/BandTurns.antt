@@ -22,7 +22,7 @@ use Rattle.lanes.specs.declared.bank.FourBands.{FourBands}
 use Rattle.bank.specs.Lines.{lines, linesOut, linesEnd}
 use Rattle.stages.specs.Lines.{noFilter, bandRows, bandEnds, three, threeOf}
 use Rattle.stages.proofs.RowLaws.{byBands, peel, length-bandEnds}
-use Rattle.rows.specs.Groups.{fourFrom, inOrder}
+use Rattle.rows.specs.Workers.{fourFrom, threesOf}
 
 -- ---- filters stored from k on
 
@@ -35,7 +35,7 @@ three-set k b fs h =
 
 pub twelve-set : (k : ℕ) (b : FourBands) (fs : List Filter) → k + 11 < length fs
     → over (k + 9) (threeOf (b .b3)) (over (k + 6) (threeOf (b .b2)) (over (k + 3) (threeOf (b .b1)) (over k (threeOf (b .b0)) fs)))
-    ≡ over k (inOrder (lines b)) fs
+    ≡ over k (threesOf (lines b)) fs
 twelve-set k b fs h =
     let x0 = threeOf (b .b0) in
     let x1 = threeOf (b .b1) in
@@ -110,7 +110,7 @@ module _ (f : ℕ) where
       let l : length (drop f rows) ≡ n * f = rw length-drop (omega arith) in
       rw (peel f n k fs rows (omega arith), out-all n (k + 3) fs (drop f rows) l) refl
 
-  end-all : (n k : ℕ) (fs : List Filter) (rows : List Float) → inOrder (linesEnd f (threes n k fs) rows) ≡ bandEnds f n k fs rows
+  end-all : (n k : ℕ) (fs : List Filter) (rows : List Float) → threesOf (linesEnd f (threes n k fs) rows) ≡ bandEnds f n k fs rows
   unfolding linesEnd bandEnds
   end-all zero k fs rows = refl
   end-all (suc n) k fs rows = rw (end-all n (k + 3) fs (drop f rows)) refl
@@ -125,7 +125,7 @@ module _ (f : ℕ) where
       let l : length (drop f rows) ≡ n * f = rw length-drop (omega arith) in
       rw (length-append, row, out-long n (k + 3) fs (drop f rows) l) (sym (next-row n f))
 
-in-order : (bs cs : List Bands) → inOrder (bs ++ cs) ≡ inOrder bs ++ inOrder cs
+in-order : (bs cs : List Bands) → threesOf (bs ++ cs) ≡ threesOf bs ++ threesOf cs
 in-order [] cs = refl
 in-order (b ∷ bs) cs = rw (in-order bs cs, append-assoc) refl
 
@@ -139,7 +139,7 @@ abbrev pub Filtering : ℕ → ℕ → List Filter → List Float → List Filte
 Filtering n f fs X Y len i b gs rows =
     Left n f i b len × (length rows ≡ len) × (length gs ≡ length fs) × (drop (3 * i) gs ≡ drop (3 * i) fs)
     × (take b rows ++ linesOut f (threes (n - i) (3 * i) fs) (drop b rows) ≡ X)
-    × (take (3 * i) gs ++ inOrder (linesEnd f (threes (n - i) (3 * i) fs) (drop b rows)) ≡ Y)
+    × (take (3 * i) gs ++ threesOf (linesEnd f (threes (n - i) (3 * i) fs) (drop b rows)) ≡ Y)
 
 pub band-start : (n f : ℕ) (fs : List Filter) (rows : List Float) → length rows ≡ n * f
     → Filtering n f fs (byBands f n 0 fs rows) (bandEnds f n 0 fs rows) (length rows) 0 0 fs rows
@@ -150,7 +150,7 @@ band-start n f fs rows e =
 module _ (n f : ℕ) (fs : List Filter) (X : List Float) (Y : List Filter) (len i b : ℕ) (gs : List Filter) (rows : List Float) where
   -- m lines side by side
   some-turn : (m : ℕ) (hs : List Filter) (last : List Float) → i + m ≤ n → 3 * n ≤ length fs → Filtering n f fs X Y len i b gs rows
-      → hs ≡ over (3 * i) (inOrder (linesEnd f (threes m (3 * i) gs) (take (m * f) (drop b rows)))) gs
+      → hs ≡ over (3 * i) (threesOf (linesEnd f (threes m (3 * i) gs) (take (m * f) (drop b rows)))) gs
       → last ≡ linesOut f (threes m (3 * i) gs) (take (m * f) (drop b rows))
       → Filtering n f fs X Y len (i + m) (b + m * f) hs (over b last rows)
   some-turn m hs last h hn v eh el =
@@ -158,7 +158,7 @@ module _ (n f : ℕ) (fs : List Filter) (X : List Float) (Y : List Filter) (len 
       let part = take (m * f) (drop b rows) in
       let bs = threes m k fs in
       let cs = threes (n - (i + m)) (k + 3 * m) fs in
-      let ends = inOrder (linesEnd f bs part) in
+      let ends = threesOf (linesEnd f bs part) in
       let same = threes-left m k gs fs (v .3) in
       let eh′ : hs ≡ over k ends gs = rw same at eh in
       let el′ : last ≡ linesOut f bs part = rw same at el in
@@ -185,7 +185,7 @@ module _ (n f : ℕ) (fs : List Filter) (X : List Float) (Y : List Filter) (len 
   -- four, and one
   pub four-turn : (hs : List Filter) (last : List Float) → i + 4 ≤ n → 3 * n ≤ length fs → Filtering n f fs X Y len i b gs rows
       → let lent = take (b + 4 * f - b) (drop b rows) in
-      hs ≡ over (3 * i) (inOrder (linesEnd (length lent / 4) (fourFrom (3 * i) gs) lent)) gs
+      hs ≡ over (3 * i) (threesOf (linesEnd (length lent / 4) (fourFrom (3 * i) gs) lent)) gs
       → last ≡ linesOut (length lent / 4) (fourFrom (3 * i) gs) lent
       → Filtering n f fs X Y len (i + 4) (b + 4 * f) hs (putMid b (b + 4 * f - b) rows last)
   four-turn hs last h hn v eh el =

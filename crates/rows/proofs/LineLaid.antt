@@ -19,7 +19,7 @@ use Rattle.unit.specs.Model.{wall}
 use Rattle.stages.specs.Lines.{three, threeOf, plus}
 use Rattle.stages.specs.Steps.{addedFirst}
 use Rattle.stages.proofs.RowLaws.{length-plus}
-use Rattle.rows.specs.Fits.{WorkFits}
+use Rattle.rows.specs.Workers.{WorkFits}
 use Rattle.rows.specs.Rows.{rowsOf, joined, laid}
 use Rattle.rows.specs.Parts.{lineLaid, lineEnds}
 use Rattle.rows.proofs.RowsOf.{from-mixed}

@@ -26,7 +26,8 @@ use Rattle.unit.specs.Sizes.{total, storeLen}
 use Rattle.unit.specs.Range.{cursorsIn}
 use Rattle.unit.specs.Room.{ringsHold}
 use Rattle.stages.proofs.RowLaws.{total-more}
-use Rattle.rows.specs.Fits.{workFor, WorkFits}
+use Rattle.rows.specs.Fits.{workFor}
+use Rattle.rows.specs.Workers.{WorkFits}
 use Rattle.rows.specs.Rows.{rowsOf}
 use Rattle.unit.proofs.Totals.{total-next, total-front}
 use Rattle.rows.proofs.RowsOf.{work-fits}

@@ -13,7 +13,8 @@ use Rattle.samples.proofs.Laws.{split-and, frame-of}
 use Rattle.samples.proofs.Lists.{cut}
 use Rattle.unit.specs.Model.{wall}
 use Rattle.unit.specs.Sizes.{total, workLen}
-use Rattle.rows.specs.Fits.{workFor, WorkFits}
+use Rattle.rows.specs.Fits.{workFor}
+use Rattle.rows.specs.Workers.{WorkFits}
 
 module _ (f : ℕ) (w : List Float) where
   abbrev k : ℕ

@@ -1,6 +1,5 @@
 -- What the steps on rows ask of the memory lent.
-use Prim.Native.Nat.{ℕ, _+_, _*_, _%_, _<_, _≤_}
-use mathlib.Core.Path.{_≡_}
+use Prim.Native.Nat.{ℕ, _+_, _*_, _%_}
 use mathlib.Core.Bool.{Bool, _&&_}
 use mathlib.Core.List.{List}
 use lib.Dec.{leb, eqb}
@@ -23,10 +22,3 @@ outputFits n f ps len = fewRows n f && (eqb (f % 4) 0 && eqb len (n * f + n * f 
 -- a work memory is one of frames of f samples
 abbrev pub workFor : Model → ℕ → ℕ → Bool
 workFor m f work = frameOk f && eqb work (workLen m f)
-
--- what that gives
-pub record WorkFits (m : Model) (f work : ℕ) : Type 0 where
-  pub some : 0 < f
-  pub short : f ≤ 1024
-  pub fours : f % 4 ≡ 0
-  pub work-is : work ≡ f + m .lines * f + m .lines * f + f + total (m .passes)

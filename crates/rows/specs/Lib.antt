@@ -4,4 +4,4 @@ pub mod Fits
 pub mod Reads
 pub mod Steps
 pub mod Parts
-pub mod Groups
+pub mod Workers

@@ -2,6 +2,9 @@
 use iir::Bands;
 use iir::Filter;
 use lanes::FourBands;
+use unit::BANDS;
+use unit::FILTERS;
+use unit::TONE;
 ghost use mathlib.Core.Path.{_≡_};
 ghost use mathlib.Core.Bool.{cond};
 ghost use mathlib.Core.List.{_++_};
@@ -10,13 +13,15 @@ ghost use lib.Dec.{leb};
 ghost use lib.ListN.{length, drop};
 ghost use Rattle.samples.specs.Lists.{over};
 ghost use Rattle.iir.specs.Runs.{bandsOut, bandsEnd};
+ghost use Rattle.unit.specs.Model.{wall};
+ghost use Rattle.unit.specs.Sizes.{filtersLen};
 ghost use Rattle.bank.specs.Lines.{linesOut, linesEnd};
 ghost use Rattle.stages.specs.Lines.{bandRows, bandEnds, three, threeOf};
-ghost use Rattle.rows.specs.Groups.{fourFrom, inOrder};
+ghost use Rattle.rows.specs.Workers.{fourFrom, threesOf};
 
 // The three filters from k on.
-fn three_of(k: usize, fs: [Filter; 51]) -> Bands
-    requires { ⌜ k + 2 < 51 ⌝ }
+fn three_of(k: usize, fs: [Filter; FILTERS]) -> Bands
+    requires { ⌜ k + 2 < filtersLen wall ⌝ }
     ensures { λ r. ⌜ r ≡ three k fs ⌝ }
 {
     let f0 = fs[k];
@@ -26,8 +31,8 @@ fn three_of(k: usize, fs: [Filter; 51]) -> Bands
 }
 
 // The filters with three others from k on.
-fn with_three(k: usize, b: Bands, fs: [Filter; 51]) -> [Filter; 51]
-    requires { ⌜ k + 2 < 51 ⌝ }
+fn with_three(k: usize, b: Bands, fs: [Filter; FILTERS]) -> [Filter; FILTERS]
+    requires { ⌜ k + 2 < filtersLen wall ⌝ }
     ensures { λ r. ⌜ r ≡ over k (threeOf b) fs ⌝ }
 {
     let f0 = b.f0;
@@ -42,11 +47,11 @@ fn with_three(k: usize, b: Bands, fs: [Filter; 51]) -> [Filter; 51]
 
 // Filters a row by the three filters from k on, and gives the filters after it. Where there are no
 // three nothing is done.
-pub fn three_at(k: usize, fs: [Filter; 51], row: &mut [f32]) -> [Filter; 51]
-    ensures { λ r. ⌜ r ≡ cond (leb k 48) (over k (threeOf (bandsEnd (three k fs) (now (row .entry)))) fs) fs ⌝ }
-    ensures { λ _. ⌜ now (row .exit) ≡ cond (leb k 48) (bandsOut (three k fs) (now (row .entry))) (now (row .entry)) ⌝ }
+pub fn three_at(k: usize, fs: [Filter; FILTERS], row: &mut [f32]) -> [Filter; FILTERS]
+    ensures { λ r. ⌜ r ≡ cond (leb k (3 * wall .lines)) (over k (threeOf (bandsEnd (three k fs) (now (row .entry)))) fs) fs ⌝ }
+    ensures { λ _. ⌜ now (row .exit) ≡ cond (leb k (3 * wall .lines)) (bandsOut (three k fs) (now (row .entry))) (now (row .entry)) ⌝ }
 {
-    if 48 < k {
+    if TONE < k {
         return fs;
     }
     let h = bank::one_line(three_of(k, fs), row);
@@ -55,9 +60,9 @@ pub fn three_at(k: usize, fs: [Filter; 51], row: &mut [f32]) -> [Filter; 51]
 
 // Filters the rows of four lines, a quarter of `rows` each, by the twelve filters from k on, and gives
 // the filters after them.
-fn twelve_at(k: usize, fs: [Filter; 51], rows: &mut [f32]) -> [Filter; 51]
-    requires { ⌜ k + 11 < 51 ⌝ }
-    ensures { λ r. ⌜ r ≡ over k (inOrder (linesEnd (length (now (rows .entry)) / 4) (fourFrom k fs) (now (rows .entry)))) fs ⌝ }
+fn twelve_at(k: usize, fs: [Filter; FILTERS], rows: &mut [f32]) -> [Filter; FILTERS]
+    requires { ⌜ k + 11 < filtersLen wall ⌝ }
+    ensures { λ r. ⌜ r ≡ over k (threesOf (linesEnd (length (now (rows .entry)) / 4) (fourFrom k fs) (now (rows .entry)))) fs ⌝ }
     ensures { λ _. ⌜ now (rows .exit) ≡ linesOut (length (now (rows .entry)) / 4) (fourFrom k fs) (now (rows .entry)) ⌝ }
 {
     let b0 = three_of(k, fs);
@@ -73,8 +78,13 @@ fn twelve_at(k: usize, fs: [Filter; 51], rows: &mut [f32]) -> [Filter; 51]
 
 // Filters n rows, each by its line's three bands, and gives the filters after them. Four lines go side
 // by side while as many are left.
-pub(crate) fn band_lines(n: usize, f: usize, fs: [Filter; 51], rows: &mut [f32]) -> [Filter; 51]
-    requires { ⌜ (n ≤ 16) × (length (now rows) ≡ n * f) ⌝ }
+pub(crate) fn band_lines(
+    n: usize,
+    f: usize,
+    fs: [Filter; FILTERS],
+    rows: &mut [f32],
+) -> [Filter; FILTERS]
+    requires { ⌜ (n ≤ wall .lines) × (length (now rows) ≡ n * f) ⌝ }
     ensures { λ r. ⌜ r ≡ bandEnds f n 0 fs (now (rows .entry)) ++ drop (3 * n) fs ⌝ }
     ensures { λ _. ⌜ now (rows .exit) ≡ bandRows f n 2 fs (bandRows f n 1 fs (bandRows f n 0 fs (now (rows .entry)))) ⌝ }
 {
@@ -84,13 +94,13 @@ pub(crate) fn band_lines(n: usize, f: usize, fs: [Filter; 51], rows: &mut [f32])
     while i < n {
         if 4 <= n - i {
             let e = b + 4 * f;
-            let hs = twelve_at(3 * i, gs, &mut rows[b..e]);
+            let hs = twelve_at(BANDS * i, gs, &mut rows[b..e]);
             gs = hs;
             b = e;
             i += 4;
         } else {
             let e = b + f;
-            let hs = three_at(3 * i, gs, &mut rows[b..e]);
+            let hs = three_at(BANDS * i, gs, &mut rows[b..e]);
             gs = hs;
             b = e;
             i += 1;

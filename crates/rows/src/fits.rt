@@ -1,6 +1,8 @@
 // Whether the memory lent is what the steps ask, judged without a sum that may not fit.
 use samples::and;
 use samples::frame_ok;
+use unit::LINES;
+use unit::LONGEST_RING;
 use unit::work_ok;
 ghost use mathlib.Core.Path.{_≡_};
 ghost use lib.Dec.{eqb};
@@ -12,7 +14,7 @@ ghost use Rattle.rows.specs.Fits.{fewRows, linesFit, outputFits, workFor
 pub(crate) fn few_rows(n: usize, f: usize) -> bool
     ensures { λ r. ⌜ r ≡ fewRows n f ⌝ }
 {
-    and(1 <= n, and(n <= 16, f <= 65536))
+    and(1 <= n, and(n <= LINES, f <= LONGEST_RING))
 }
 
 // The input, n rows read and n mixed.

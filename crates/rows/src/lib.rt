@@ -18,6 +18,10 @@ pub use fits::work_for;
 use iir::Filter;
 pub use reads::read_line;
 use samples::and;
+use unit::BANDS;
+use unit::FILTERS;
+use unit::LINES;
+use unit::MIXED_ROW;
 ghost use mathlib.Core.Path.{_≡_};
 ghost use mathlib.Core.Bool.{true, _&&_};
 ghost use mathlib.Core.List.{_++_};
@@ -25,7 +29,8 @@ ghost use Prim.Native.Nat.{_+_, _*_, _<_, _≤_};
 ghost use lib.Dec.{ltb};
 ghost use lib.ListN.{length, take, drop};
 ghost use Rattle.unit.specs.Model.{wall};
-ghost use Rattle.rows.specs.Fits.{workFor, WorkFits};
+ghost use Rattle.rows.specs.Fits.{workFor};
+ghost use Rattle.rows.specs.Workers.{WorkFits};
 ghost use Rattle.rows.specs.Steps.{linesIn, linesLaid, linesEnds};
 ghost use Rattle.rows.specs.Parts.{lineLaid, lineEnds};
 
@@ -36,9 +41,9 @@ pub fn line_rows(
     f: usize,
     factor: f32,
     tail: bool,
-    fs: [Filter; 51],
+    fs: [Filter; FILTERS],
     rows: &mut [f32],
-) -> [Filter; 51]
+) -> [Filter; FILTERS]
     ensures { λ r. ⌜ r ≡ linesEnds n f factor tail fs (now (rows .entry)) ⌝ }
     ensures { λ _. ⌜ now (rows .exit) ≡ linesLaid n f factor tail fs (now (rows .entry)) ⌝ }
 {
@@ -54,10 +59,10 @@ fn lines_in(
     f: usize,
     factor: f32,
     tail: bool,
-    fs: [Filter; 51],
+    fs: [Filter; FILTERS],
     rows: &mut [f32],
-) -> [Filter; 51]
-    requires { ⌜ (0 < n) × (n ≤ 16) × (f ≤ 65536) × (length (now rows) ≡ f + n * f + n * f) ⌝ }
+) -> [Filter; FILTERS]
+    requires { ⌜ (0 < n) × (n ≤ wall .lines) × (f ≤ 65536) × (length (now rows) ≡ f + n * f + n * f) ⌝ }
     ensures { λ r. ⌜ r ≡ linesIn n f factor tail fs (now (rows .entry)) .filters ++ drop (3 * n) fs ⌝ }
     ensures { λ _. ⌜ now (rows .exit) ≡ take f (now (rows .entry)) ++ (take (n * f) (drop f (now (rows .entry))) ++ linesIn n f factor tail fs (now (rows .entry)) .put) ⌝ }
 {
@@ -70,25 +75,37 @@ fn lines_in(
 
 // Step 4 of line i on a work memory that holds the input and the rows mixed: makes the row to put, and
 // gives the filters after it. On memory that isn't one of such frames nothing is done.
-pub fn make_line(i: usize, f: usize, tail: bool, fs: [Filter; 51], work: &mut [f32]) -> [Filter; 51]
-    ensures { λ r. ⌜ r ≡ lineEnds wall f i fs (ltb i 16 && workFor wall f (length (now (work .entry)))) (now (work .entry)) ⌝ }
-    ensures { λ _. ⌜ now (work .exit) ≡ lineLaid wall f i tail fs (ltb i 16 && workFor wall f (length (now (work .entry)))) (now (work .entry)) ⌝ }
+pub fn make_line(
+    i: usize,
+    f: usize,
+    tail: bool,
+    fs: [Filter; FILTERS],
+    work: &mut [f32],
+) -> [Filter; FILTERS]
+    ensures { λ r. ⌜ r ≡ lineEnds wall f i fs (ltb i (wall .lines) && workFor wall f (length (now (work .entry)))) (now (work .entry)) ⌝ }
+    ensures { λ _. ⌜ now (work .exit) ≡ lineLaid wall f i tail fs (ltb i (wall .lines) && workFor wall f (length (now (work .entry)))) (now (work .entry)) ⌝ }
 {
-    if !and(i < 16, work_for(f, work.len())) {
+    if !and(i < LINES, work_for(f, work.len())) {
         return fs;
     }
     wall_line(i, f, tail, fs, work)
 }
 
 // The same on memory that is.
-fn wall_line(i: usize, f: usize, tail: bool, fs: [Filter; 51], work: &mut [f32]) -> [Filter; 51]
-    requires { ⌜ (i < 16) × WorkFits wall f (length (now work)) ⌝ }
+fn wall_line(
+    i: usize,
+    f: usize,
+    tail: bool,
+    fs: [Filter; FILTERS],
+    work: &mut [f32],
+) -> [Filter; FILTERS]
+    requires { ⌜ (i < wall .lines) × WorkFits wall f (length (now work)) ⌝ }
     ensures { λ r. ⌜ r ≡ lineEnds wall f i fs true (now (work .entry)) ⌝ }
     ensures { λ _. ⌜ now (work .exit) ≡ lineLaid wall f i tail fs true (now (work .entry)) ⌝ }
 {
-    let b = 17 * f + i * f;
+    let b = MIXED_ROW * f + i * f;
     let e = b + f;
-    let gs = three_at(3 * i, fs, &mut work[b..e]);
+    let gs = three_at(BANDS * i, fs, &mut work[b..e]);
     add_input(tail, f, &mut work[0..e]);
     gs
 }

@@ -2,6 +2,7 @@
 use crate::fits::work_for;
 use delay::Cursors;
 use samples::and;
+use unit::LINES;
 use unit::is_store;
 use unit::rings_hold;
 ghost use mathlib.Core.Path.{_≡_};
@@ -11,12 +12,19 @@ ghost use lib.ListN.{length, take};
 ghost use Rattle.unit.specs.Model.{wall};
 ghost use Rattle.unit.specs.Sizes.{storeLen, total};
 ghost use Rattle.unit.specs.Room.{ringsHold};
-ghost use Rattle.rows.specs.Fits.{WorkFits};
+ghost use Rattle.rows.specs.Workers.{WorkFits};
 ghost use Rattle.rows.specs.Reads.{readLaid, lineRoom};
 
 // Step 2 of line i of lines' rings of the lengths `ls`, its cursors `c`: reads its row into the work
 // memory. On a store or a work memory that isn't one of such frames nothing is done.
-pub fn read_line(i: usize, f: usize, ls: [usize; 16], c: Cursors, store: &[f32], work: &mut [f32])
+pub fn read_line(
+    i: usize,
+    f: usize,
+    ls: [usize; LINES],
+    c: Cursors,
+    store: &[f32],
+    work: &mut [f32],
+)
     ensures { λ _. ⌜ now (work .exit) ≡ readLaid wall f ls i c (lineRoom wall f ls i (length (now (store .entry))) (length (now (work .entry)))) (now (store .entry)) (now (work .entry)) ⌝ }
 {
     if !line_room(i, f, ls, store.len(), work.len()) {
@@ -26,16 +34,16 @@ pub fn read_line(i: usize, f: usize, ls: [usize; 16], c: Cursors, store: &[f32],
 }
 
 // Whether there is such a line, and the memory is one of such rings and of frames of f samples.
-fn line_room(i: usize, f: usize, ls: [usize; 16], store: usize, work: usize) -> bool
+fn line_room(i: usize, f: usize, ls: [usize; LINES], store: usize, work: usize) -> bool
     ensures { λ r. ⌜ r ≡ lineRoom wall f ls i store work ⌝ }
 {
     let rings = and(rings_hold(f, ls), is_store(ls, store));
-    and(i < 16, and(work_for(f, work), rings))
+    and(i < LINES, and(work_for(f, work), rings))
 }
 
 // The same on memory that is.
-fn wall_read(i: usize, f: usize, ls: [usize; 16], c: Cursors, store: &[f32], work: &mut [f32])
-    requires { ⌜ (i < 16) × WorkFits wall f (length (now work)) × (ringsHold f ls ≡ true) × (length (now store) ≡ storeLen wall ls) ⌝ }
+fn wall_read(i: usize, f: usize, ls: [usize; LINES], c: Cursors, store: &[f32], work: &mut [f32])
+    requires { ⌜ (i < wall .lines) × WorkFits wall f (length (now work)) × (ringsHold f ls ≡ true) × (length (now store) ≡ storeLen wall ls) ⌝ }
     ensures { λ _. ⌜ now (work .exit) ≡ readLaid wall f ls i c true (now (store .entry)) (now (work .entry)) ⌝ }
 {
     let a = line_start(i, ls);
@@ -46,8 +54,8 @@ fn wall_read(i: usize, f: usize, ls: [usize; 16], c: Cursors, store: &[f32], wor
 }
 
 // Where the ring of line i begins in a store.
-fn line_start(i: usize, ls: [usize; 16]) -> usize
-    requires { ⌜ (i ≤ 16) × (total ls ≤ 1048576) ⌝ }
+fn line_start(i: usize, ls: [usize; LINES]) -> usize
+    requires { ⌜ (i ≤ wall .lines) × (total ls ≤ 1048576) ⌝ }
     ensures { λ r. ⌜ r ≡ total (take i ls) ⌝ }
 {
     let mut a = 0usize;

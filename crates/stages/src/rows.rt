@@ -1,6 +1,7 @@
 // The steps of a frame on one lent stretch: rows added, divided and copied, and the filters judged.
 use iir::Filter;
 use samples::and;
+use unit::FILTERS;
 ghost use mathlib.Core.Path.{_≡_};
 ghost use mathlib.Core.List.{_++_};
 ghost use Prim.Native.Nat.{_+_, _≤_, min};
@@ -56,11 +57,11 @@ fn shorter(a: usize, b: usize) -> usize
 }
 
 // Whether all numbers of all filters are finite.
-pub fn filters_finite(fs: [Filter; 51]) -> bool
+pub fn filters_finite(fs: [Filter; FILTERS]) -> bool
     ensures { λ r. ⌜ r ≡ filtersFinite fs ⌝ }
 {
     let mut ok = true;
-    for i in 0..51usize {
+    for i in 0..FILTERS {
         let f = fs[i];
         ok = and(ok, iir::is_finite(f));
     }

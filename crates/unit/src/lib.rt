@@ -1,15 +1,32 @@
 // The unit's state by value, when it is in range, and the sizes of the memory that it is lent.
 //
 // Its contracts cite `specs/`, over any model of the unit: the code here is the wall unit's.
+mod layout;
 mod range;
 mod room;
 mod sizes;
 
+pub use layout::BANDS;
+pub use layout::COEFFICIENTS;
+pub use layout::DIVISOR;
+pub use layout::FACTOR;
+pub use layout::FILTERS;
+pub use layout::JOBS;
+pub use layout::LINE_MARK;
+pub use layout::LINES;
+pub use layout::LONGEST_RING;
+pub use layout::MIX_MARK;
+pub use layout::MIXED_ROW;
+pub use layout::OUTPUT_MARK;
+pub use layout::OUTPUT_ROW;
+pub use layout::PASSES;
+pub use layout::PER_FILTER;
+pub use layout::ROWS;
+pub use layout::TONE;
 pub use range::in_range;
 pub use room::lent_ok;
 pub use room::rings_hold;
 pub use room::room_ok;
-pub use sizes::PASSES;
 pub use sizes::is_store;
 pub use sizes::lengths;
 pub use sizes::store_ok;
@@ -33,15 +50,15 @@ use samples::Samples;
 pub struct State {
     pub rate: u32,
     pub frame: usize,
-    pub lines: [Cursors; 16],
+    pub lines: [Cursors; LINES],
     pub passes: [Cursors; 4],
     pub count: Frames,
-    pub filters: [Filter; 51],
+    pub filters: [Filter; FILTERS],
     pub busy: bool,
     pub tail: bool,
-    pub marks: [bool; 34],
+    pub marks: [bool; JOBS],
     pub next: Frames,
-    pub before: [Filter; 51],
+    pub before: [Filter; FILTERS],
 }
 
 // The state of a unit in which nothing has sounded yet.
@@ -56,15 +73,15 @@ pub fn fresh_state(rate: u32, frame: usize) -> State
     State {
         rate,
         frame,
-        lines: [start; 16],
+        lines: [start; LINES],
         passes: [start; 4],
         count: Frames(0),
-        filters: [blank; 51],
+        filters: [blank; FILTERS],
         busy: false,
         tail: false,
-        marks: [false; 34],
+        marks: [false; JOBS],
         next: Frames(0),
-        before: [blank; 51],
+        before: [blank; FILTERS],
     }
 }
 

@@ -1,6 +1,9 @@
 // When a state is in range.
 use crate::State;
-use crate::sizes::PASSES;
+use crate::layout::FILTERS;
+use crate::layout::JOBS;
+use crate::layout::LINES;
+use crate::layout::PASSES;
 use crate::sizes::lengths;
 use delay::Cursors;
 use iir::Filter;
@@ -65,12 +68,12 @@ pub(crate) fn passes_ok(cs: [Cursors; 4]) -> bool
     ok
 }
 
-// Whether both cursors of each of sixteen rings are within it.
-pub(crate) fn cursors_in(ls: [usize; 16], cs: [Cursors; 16]) -> bool
+// Whether both cursors of each of the lines' rings are within it.
+pub(crate) fn cursors_in(ls: [usize; LINES], cs: [Cursors; LINES]) -> bool
     ensures { λ r. ⌜ r ≡ cursorsIn ls cs ⌝ }
 {
     let mut ok = true;
-    for i in 0..16usize {
+    for i in 0..LINES {
         let c = cs[i];
         ok = and(ok, below(c, ls[i]));
     }
@@ -78,11 +81,11 @@ pub(crate) fn cursors_in(ls: [usize; 16], cs: [Cursors; 16]) -> bool
 }
 
 // Whether no job is marked.
-fn unmarked(marks: [bool; 34]) -> bool
+fn unmarked(marks: [bool; JOBS]) -> bool
     ensures { λ r. ⌜ r ≡ unmarked marks ⌝ }
 {
     let mut ok = true;
-    for i in 0..34usize {
+    for i in 0..JOBS {
         let m = marks[i];
         ok = and(ok, !m);
     }
@@ -90,11 +93,11 @@ fn unmarked(marks: [bool; 34]) -> bool
 }
 
 // Whether every filter is nine times +0.
-fn blank_filters(fs: [Filter; 51]) -> bool
+fn blank_filters(fs: [Filter; FILTERS]) -> bool
     ensures { λ r. ⌜ r ≡ blankFilters fs ⌝ }
 {
     let mut ok = true;
-    for i in 0..51usize {
+    for i in 0..FILTERS {
         let f = fs[i];
         ok = and(ok, iir::is_blank(f));
     }

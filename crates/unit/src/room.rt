@@ -1,4 +1,6 @@
 // The memory and the rings that a frame asks.
+use crate::layout::LINES;
+use crate::layout::LONGEST_RING;
 use crate::range::cursors_in;
 use crate::range::passes_ok;
 use crate::sizes::is_store;
@@ -25,13 +27,13 @@ pub fn lent_ok(frame: usize, store: usize, work: usize, output: usize) -> bool
 
 // Whether rings of the lengths `ls` can hold a frame of `frame` samples, and none is too long for a
 // ring.
-pub fn rings_hold(frame: usize, ls: [usize; 16]) -> bool
+pub fn rings_hold(frame: usize, ls: [usize; LINES]) -> bool
     ensures { λ r. ⌜ r ≡ ringsHold frame ls ⌝ }
 {
     let mut ok = true;
-    for i in 0..16usize {
+    for i in 0..LINES {
         let l = ls[i];
-        ok = and(ok, and(frame <= l, l <= 65536));
+        ok = and(ok, and(frame <= l, l <= LONGEST_RING));
     }
     ok
 }
@@ -40,8 +42,8 @@ pub fn rings_hold(frame: usize, ls: [usize; 16]) -> bool
 // on allpass rings with `qs`, and in memory of these lengths.
 pub fn room_ok(
     frame: usize,
-    ls: [usize; 16],
-    cs: [Cursors; 16],
+    ls: [usize; LINES],
+    cs: [Cursors; LINES],
     qs: [Cursors; 4],
     store: usize,
     work: usize,

@@ -1,4 +1,8 @@
 // The sizes of the memory that the unit is lent, judged without a sum that may not fit.
+use crate::layout::DELAYS_AND_RINGS;
+use crate::layout::LINES;
+use crate::layout::RINGS;
+use crate::layout::ROWS;
 use samples::frame_ok;
 ghost use mathlib.Core.Path.{_≡_};
 ghost use mathlib.Core.Bool.{cond};
@@ -9,27 +13,24 @@ ghost use Rattle.samples.specs.Sizes.{frameOk};
 ghost use Rattle.unit.specs.Model.{wall};
 ghost use Rattle.unit.specs.Sizes.{lengthsOf, storeLen, workLen};
 
-// The lengths of the allpass rings x0, y0, x1 and y1.
-pub const PASSES: [usize; 4] = [225, 341, 341, 441];
-
 // The lengths of the lines' rings in a unit of frames of `frame` samples. There is no such unit where
 // `frame` is out of range, and no ring.
-pub fn lengths(frame: usize) -> [usize; 16]
-    ensures { λ r. ⌜ r ≡ cond (frameOk frame) (lengthsOf wall frame) (replicate 16 0) ⌝ }
+pub fn lengths(frame: usize) -> [usize; LINES]
+    ensures { λ r. ⌜ r ≡ cond (frameOk frame) (lengthsOf wall frame) (replicate (wall .lines) 0) ⌝ }
 {
     if !frame_ok(frame) {
-        return [0; 16];
+        return [0; LINES];
     }
     lengths_of(frame)
 }
 
 // The same where it is in range.
-fn lengths_of(frame: usize) -> [usize; 16]
+fn lengths_of(frame: usize) -> [usize; LINES]
     requires { ⌜ frame ≤ 1024 ⌝ }
     ensures { λ r. ⌜ r ≡ lengthsOf wall frame ⌝ }
 {
-    let mut ls = [0usize; 16];
-    for i in 0..16usize {
+    let mut ls = [0usize; LINES];
+    for i in 0..LINES {
         ls[i] = primes::delay(i) + frame;
     }
     ls
@@ -39,30 +40,30 @@ fn lengths_of(frame: usize) -> [usize; 16]
 pub fn store_ok(frame: usize, store: usize) -> bool
     ensures { λ r. ⌜ r ≡ eqb store (storeLen wall (lengthsOf wall frame)) ⌝ }
 {
-    is_sum(store, 7600, 16, frame)
+    is_sum(store, DELAYS_AND_RINGS, LINES, frame)
 }
 
 // Whether a work memory has the length that frames of `frame` samples ask.
 pub fn work_ok(frame: usize, work: usize) -> bool
     ensures { λ r. ⌜ r ≡ eqb work (workLen wall frame) ⌝ }
 {
-    is_sum(work, 1348, 34, frame)
+    is_sum(work, RINGS, ROWS, frame)
 }
 
 // Whether a store holds lines' rings of the lengths `ls`, and then the allpass rings: each ring is taken
 // off what is left of it.
-pub fn is_store(ls: [usize; 16], store: usize) -> bool
+pub fn is_store(ls: [usize; LINES], store: usize) -> bool
     ensures { λ r. ⌜ r ≡ eqb store (storeLen wall ls) ⌝ }
 {
     let mut left = store;
-    for i in 0..16usize {
+    for i in 0..LINES {
         let l = ls[i];
         if left < l {
             return false;
         }
         left -= l;
     }
-    left == 1348
+    left == RINGS
 }
 
 // Whether `len` is `base` and `rows` rows of `frame`.

@@ -8,7 +8,8 @@ use Rattle.unit.specs.Model.{wall}
 use Rattle.stages.specs.Frame.{Frame, newFilters}
 use Rattle.stages.specs.Settle.{frameFinite, allMoved}
 use Rattle.frame.specs.declared.whole.Judged.{Judged}
-use Rattle.frame.specs.Steps.{leftBy, judgedStore, judgedOut}
+use Rattle.frame.specs.Steps.{leftBy}
+use Rattle.frame.specs.Workers.{judgedStore, judgedOut}
 use Rattle.frame.proofs.Room.{frame-wall}
 use Rattle.frame.proofs.wall_frame.Statement.{statement}
 use Rattle.frame.proofs.wall_frame.Tie as tie

@@ -4,7 +4,7 @@ use mathlib.Core.Path.{ap, _∙_}
 use mathlib.Core.List.{List}
 use Rattle.samples.specs.Lists.{over}
 use Rattle.iir.specs.declared.Bands.{Bands}
-use Rattle.rows.specs.Groups.{inOrder}
+use Rattle.rows.specs.Workers.{threesOf}
 use Rattle.rows.proofs.BandTurns.{twelve-set}
 use borrow.Author.Needs.{needs}
 use Rattle.rows.proofs.filters.twelve_at.Statement.{statement}
@@ -24,7 +24,7 @@ returns c =
     let outs = rw (b0, b1, b2, b3) at (called .four-lines .ensures .1) in
     let stored = twelve-set (s .args .k) (called .four-lines .result) (s .args .fs) (omega (arith, s .pre, s .good)) in (
       rw (c .with-three4 .ensures, c .before .with-three3 .ensures, c .before .before .with-three2 .ensures, first .with-three .ensures)
-          (stored ∙ ap (λ (l : List Bands). over (s .args .k) (inOrder l) (s .args .fs)) ends),
+          (stored ∙ ap (λ (l : List Bands). over (s .args .k) (threesOf l) (s .args .fs)) ends),
       outs,
     )
 

@@ -1,19 +1,22 @@
--- How a frame lies in the work memory: the input, the rows read, the rows mixed, which become those to put, the output and the allpass rings.
+-- What private workers cite: what they ask of the memory lent, how a frame of n lines lies in the work memory, and what is kept of it.
 use Prim.Native.Nat.{ℕ, zero, suc, _+_, _*_, _%_, _≤_, _<_}
 use mathlib.Core.Path.{_≡_}
-use mathlib.Core.Bool.{Bool}
+use mathlib.Core.Bool.{Bool, _&&_, cond}
 use mathlib.Core.List.{List, _++_}
 use lib.Ieee.{Float}
 use lib.ListN.{length, getD, take, drop}
+use Rattle.search.specs.Search.{allFinite}
 use Rattle.delay.specs.declared.Cursors.{Cursors}
 use Rattle.delay.specs.Calls.{both}
 use Rattle.iir.specs.declared.Filter.{Filter}
 use Rattle.unit.specs.Model.{Model}
 use Rattle.unit.specs.Sizes.{total}
 use Rattle.stages.specs.Lines.{readRows}
-use Rattle.stages.specs.Frame.{Frame, lineRows, outputRow}
+use Rattle.stages.specs.Frame.{Frame, lineRows, outputRow, newFilters}
+use Rattle.stages.specs.Settle.{filtersFinite, frameFinite, putRows}
+use Rattle.frame.specs.declared.whole.Judged.{Judged}
 
--- a whole frame's rows
+-- a whole frame's rows: the input, the rows read, those to put, the output and the allpass rings
 unfoldable pub framed : List Float → Frame → List Float
 framed input r = input ++ (r .reads ++ (r .lines .put ++ (r .output .out ++ r .output .rings)))
 
@@ -78,3 +81,30 @@ pub record SettleFits (n f : ℕ) (ls : List ℕ) (cs : List Cursors) (store wor
   pub rows : f + n * f + n * f + f ≤ work
   pub rings : total (take n ls) + work ≡ store + (f + n * f + n * f + f)
   pub out : output ≡ f
+
+-- ---- what lies in the work memory: f samples of input, n rows read, n to put, the output and the allpass rings
+
+-- all that is kept or handed out of it is finite, and so are the filters
+abbrev pub finiteIn : ℕ → ℕ → List Filter → List Float → Bool
+finiteIn n f fs work = filtersFinite fs && allFinite (drop (f + n * f) work)
+
+-- the store with its rows in the lines, and its allpass rings after them
+abbrev pub putIn : ℕ → ℕ → List ℕ → List Cursors → List Float → List Float → List Float
+putIn n f ls cs work store = putRows f n 0 ls cs (take (n * f) (drop (f + n * f) work)) (drop (f + n * f + n * f + f) work) store
+
+-- its output
+abbrev pub outIn : ℕ → ℕ → List Float → List Float
+outIn n f work = take f (drop (f + n * f + n * f) work)
+
+-- ---- a frame of n lines that lies there, where the judgement 9 is made of it
+
+abbrev pub judgedOf : Frame → Judged
+judgedOf r = record { ok = frameFinite r; filters = newFilters r }
+
+-- its rows in the lines and its allpass rings after them, if all of it is finite
+unfoldable pub judgedStore : ℕ → ℕ → List ℕ → List Cursors → Frame → List Float → List Float
+judgedStore n f ls cs r store = cond (frameFinite r) (putRows f n 0 ls cs (r .lines .put) (r .output .rings) store) store
+
+-- its output, if all of it is finite
+unfoldable pub judgedOut : Frame → List Float → List Float
+judgedOut r output = cond (frameFinite r) (r .output .out) output

@@ -1,0 +1,63 @@
+// How the wall unit is built and how its memory lies, each number once. The other crates use these
+// names, and prove of them what the model of the unit says: `wall` in specs/Model.antt.
+use primes::DELAYS;
+
+// The lines.
+pub const LINES: usize = 16;
+
+// The band filters of a line. The tone has as many.
+pub const BANDS: usize = 3;
+
+// Where the tone's filters begin: after those of the lines, line after line.
+pub const TONE: usize = LINES * BANDS;
+
+// All filters.
+pub const FILTERS: usize = TONE + BANDS;
+
+// The coefficients of a filter: a1, a2, b0, b1, b2.
+pub const PER_FILTER: usize = 5;
+
+// The coefficients that an apply is given.
+pub const COEFFICIENTS: usize = FILTERS * PER_FILTER;
+
+// The factor of the mix.
+pub const FACTOR: f32 = 0.25;
+
+// What the sum of the lines is divided by.
+pub const DIVISOR: f32 = 16.0;
+
+// The lengths of the allpass rings x0, y0, x1 and y1.
+pub const PASSES: [usize; 4] = [225, 341, 341, 441];
+
+// All four of them: 1,348.
+pub const RINGS: usize = PASSES[0] + PASSES[1] + PASSES[2] + PASSES[3];
+
+// The delays of all lines, four in turn, and the allpass rings: what a store has beside a frame for each
+// line, 7,600.
+pub const DELAYS_AND_RINGS: usize = LINES / 4 * (DELAYS[0] + DELAYS[1] + DELAYS[2] + DELAYS[3])
+    + RINGS;
+
+// The longest ring.
+pub const LONGEST_RING: usize = 65536;
+
+// The rows of the work memory, a frame each: row 0 is the input, and from row 1 on lie the lines read.
+// The lines mixed lie from this row on.
+pub const MIXED_ROW: usize = 1 + LINES;
+
+// The row of the output.
+pub const OUTPUT_ROW: usize = MIXED_ROW + LINES;
+
+// All rows. After them lie the allpass rings.
+pub const ROWS: usize = OUTPUT_ROW + 1;
+
+// The mark of the mix. The marks before it are the reads'.
+pub const MIX_MARK: usize = LINES;
+
+// The mark of line 0. Those of the other lines follow.
+pub const LINE_MARK: usize = MIX_MARK + 1;
+
+// The mark of the output.
+pub const OUTPUT_MARK: usize = LINE_MARK + LINES;
+
+// The jobs of a frame, a mark each.
+pub const JOBS: usize = OUTPUT_MARK + 1;
