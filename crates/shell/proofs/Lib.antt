@@ -1,6 +1,6 @@
 pub mod Filled
-pub mod Given
-pub mod Silence
+pub mod Left
+pub mod Said
 pub mod SeventySix
 pub mod Eight
 pub mod Steady

@@ -4,34 +4,32 @@ use mathlib.Core.Bool.{Bool, false, cond, _||_}
 use mathlib.Core.List.{List, [], _∷_}
 use Prim.Native.Nat.{ℕ}
 use lib.Ieee.{Float}
-use Rattle.samples.specs.declared.Answer.{Answer}
 use Rattle.samples.specs.Answers.{accepted}
-use Rattle.unit.specs.UnitState.{UnitState, ofState}
+use Rattle.unit.specs.UnitState.{UnitState}
 use Rattle.unit.specs.Model.{wall}
 use Rattle.unit.specs.Fresh.{freshUnit}
-use Rattle.unit.specs.Sizes.{storeLen, workLen}
+use Rattle.unit.specs.Sizes.{lengthsOf, storeLen, workLen}
+use Rattle.machine.specs.Ending.{Ending}
 use Rattle.shell.specs.Settings.{frame, rate, storeFloats, workFloats, calls}
-use Rattle.shell.specs.Frames.{inputOutcome}
+use Rattle.shell.specs.Frames.{inputEnds}
 
--- a frame of input: its bytes, and the store that is lent
+-- a frame of input: its bytes, and the memory that is lent
 pub record Input : Type 0 where
   pub bytes : List ℕ
   pub store : List Float
+  pub work : List Float
 
-abbrev pub answered : UnitState → Input → Answer
-answered u x = inputOutcome u (x .bytes) (x .store) .answer
-
-abbrev pub next : UnitState → Input → UnitState
-next u x = ofState (inputOutcome u (x .bytes) (x .store) .state)
+abbrev pub frameEnds : UnitState → Input → Ending
+frameEnds u x = inputEnds u (x .bytes) (x .store) (x .work)
 
 -- the unit after frames of input, and whether any of them was accepted
 unfoldable pub last : UnitState → List Input → UnitState
 last u [] = u
-last u (x ∷ xs) = last (next u x) xs
+last u (x ∷ xs) = last (frameEnds u x .memory .unit) xs
 
 unfoldable pub any : UnitState → List Input → Bool
 any u [] = false
-any u (x ∷ xs) = accepted (answered u x) || any (next u x) xs
+any u (x ∷ xs) = accepted (frameEnds u x .answer) || any (frameEnds u x .memory .unit) xs
 
 -- "as many tail calls as the last count read (76 if any frame was accepted, else none)"
 abbrev pub SeventySix : Type 0
@@ -39,4 +37,4 @@ SeventySix = (xs : List Input) → let u = freshUnit wall rate frame in calls (l
 
 -- the memory is what a unit of the program's frame takes
 abbrev pub Room : Type 0
-Room = (storeLen wall frame ≡ storeFloats) × (workLen wall frame ≡ workFloats)
+Room = (storeLen wall (lengthsOf wall frame) ≡ storeFloats) × (workLen wall frame ≡ workFloats)

@@ -5,56 +5,39 @@ use lib.Ieee.{Float}
 use lib.ListN.{replicate}
 use Rattle.samples.specs.declared.Answer.{Answer}
 use Rattle.samples.specs.Answers.{accept}
+use Rattle.samples.specs.Binary32.{+0}
 use Rattle.wire.specs.Wire.{decoded, encoded}
 use Rattle.unit.specs.UnitState.{UnitState}
 use Rattle.unit.specs.Model.{wall}
-use Rattle.judges.specs.Judges.{judgedApply, judgedTail}
-use Rattle.stages.specs.Frame.{Frame}
-use Rattle.stages.specs.Settle.{fallen}
-use Rattle.unit.specs.declared.Outcome.{Outcome}
-use Rattle.reverb.specs.Whole.{applyFrame, applyCount, tailFrame, wholeAnswer, wholeOutcome, wholeStore, wholeWork}
+use Rattle.machine.specs.Ending.{Ending}
+use Rattle.machine.specs.Whole.{Play, apply, tail, wholeDue, atOnce}
 use Rattle.shell.specs.Settings.{frame, storeFloats, workFloats, times, coefficients}
 
 -- "It reads little-endian binary32 .., pads the last frame with +0, ignores 1 to 3 odd bytes": the samples of a frame's bytes
 abbrev pub heard : List ℕ → List Float
 heard bytes = decoded frame bytes
 
--- "writes each frame"; "A refused frame is written as 128 zeros": 512 bytes, each 0
-unfoldable pub said : Answer → Frame → List ℕ
-said due r = accept (wholeAnswer due r) (encoded (r .output .out)) (replicate 512 0)
+-- a frame of input
+abbrev pub inputPlay : List ℕ → Play
+inputPlay bytes = apply times coefficients (heard bytes)
 
--- a frame of input, for a unit u that is lent the program's memory: what is due of it, and the frame
+-- what is due of it, and of a frame of the tail, before the frame is judged, for a unit u that is lent the program's memory
 abbrev pub inputDue : UnitState → List ℕ → Answer
-inputDue u bytes = judgedApply wall u times coefficients (heard bytes) storeFloats workFloats frame
+inputDue u bytes = wholeDue wall u (inputPlay bytes) storeFloats workFloats frame
 
-abbrev pub inputFrame : UnitState → List ℕ → List Float → Frame
-inputFrame u bytes store = applyFrame wall u coefficients (heard bytes) store
-
--- what it gives, and what it leaves
-abbrev pub inputOutcome : UnitState → List ℕ → List Float → Outcome
-inputOutcome u bytes store = wholeOutcome wall u (inputDue u bytes) (inputFrame u bytes store) (applyCount u times)
-
-abbrev pub inputStore : UnitState → List ℕ → List Float → List Float
-inputStore u bytes store = wholeStore wall u (inputDue u bytes) (inputFrame u bytes store) store
-
-abbrev pub inputWork : UnitState → List ℕ → List Float → List Float
-inputWork u bytes work = wholeWork (inputDue u bytes) work
-
-abbrev pub inputSaid : UnitState → List ℕ → List Float → List ℕ
-inputSaid u bytes store = said (inputDue u bytes) (inputFrame u bytes store)
-
--- a frame of the tail, likewise
 abbrev pub tailDue : UnitState → Answer
-tailDue u = judgedTail wall u storeFloats workFloats frame
+tailDue u = wholeDue wall u tail storeFloats workFloats frame
 
-abbrev pub tailOutcome : UnitState → List Float → Outcome
-tailOutcome u store = wholeOutcome wall u (tailDue u) (tailFrame wall u store) (fallen (u .count))
+-- how each ends, lent a silent row for its output
+abbrev pub playEnds : UnitState → Play → List Float → List Float → Ending
+playEnds u p store work = atOnce wall (record { unit = u; store = store; work = work }) p (replicate frame +0)
 
-abbrev pub tailStore : UnitState → List Float → List Float
-tailStore u store = wholeStore wall u (tailDue u) (tailFrame wall u store) store
+abbrev pub inputEnds : UnitState → List ℕ → List Float → List Float → Ending
+inputEnds u bytes store work = playEnds u (inputPlay bytes) store work
 
-abbrev pub tailWork : UnitState → List Float → List Float
-tailWork u work = wholeWork (tailDue u) work
+abbrev pub tailEnds : UnitState → List Float → List Float → Ending
+tailEnds u store work = playEnds u tail store work
 
-abbrev pub tailSaid : UnitState → List Float → List ℕ
-tailSaid u store = said (tailDue u) (tailFrame wall u store)
+-- "writes each frame"; "A refused frame is written as 128 zeros": 512 bytes, each 0
+unfoldable pub said : Ending → List ℕ
+said e = accept (e .answer) (encoded (e .output)) (replicate 512 0)

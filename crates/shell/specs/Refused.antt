@@ -4,31 +4,43 @@ use mathlib.Core.List.{List, [], _∷_}
 use Prim.Native.Nat.{ℕ, _%_}
 use lib.Dec.{ltb}
 use lib.Ieee.{Float, binary32, ofBits}
+use lib.ListN.{length}
 use Rattle.samples.specs.declared.Answer.the-variants.{Accepted}
+use Rattle.samples.specs.Answers.{orElse}
 use Rattle.samples.specs.Binary32.{finite}
 use Rattle.search.specs.Search.{firstBad}
-use Rattle.unit.specs.UnitState.{UnitState, ofState}
+use Rattle.unit.specs.UnitState.{UnitState}
 use Rattle.unit.specs.Model.{wall}
 use Rattle.unit.specs.Fresh.{freshUnit}
 use Rattle.judges.specs.Judges.{badInput}
-use Rattle.shell.specs.Settings.{frame, rate}
-use Rattle.shell.specs.Frames.{heard, inputDue, inputOutcome, tailDue, tailOutcome}
+use Rattle.stages.specs.Settle.{nineOf}
+use Rattle.machine.specs.Whole as Play
+use Rattle.machine.specs.Whole.{frameFor}
+use Rattle.shell.specs.Settings.{frame, rate, storeFloats, workFloats}
+use Rattle.shell.specs.Frames.{heard, inputPlay, inputDue, inputEnds, tailDue, tailEnds}
 
--- what the program does to a unit: a frame of input, or one of the tail, each on any store
-pub data Turn : Type 0 where
-  input : List ℕ → List Float → Turn
-  tail : List Float → Turn
+-- what the program does to a unit: a frame of input, or one of the tail, each on any store and work memory
+pub data Passage : Type 0 where
+  input : List ℕ → List Float → List Float → Passage
+  tail : List Float → List Float → Passage
 
-unfoldable pub turned : UnitState → List Turn → UnitState
-turned u [] = u
-turned u (input bytes store ∷ ts) = turned (ofState (inputOutcome u bytes store .state)) ts
-turned u (tail store ∷ ts) = turned (ofState (tailOutcome u store .state)) ts
+unfoldable pub through : UnitState → List Passage → UnitState
+through u [] = u
+through u (input bytes store work ∷ ps) = through (inputEnds u bytes store work .memory .unit) ps
+through u (tail store work ∷ ps) = through (tailEnds u store work .memory .unit) ps
 
 -- from a start on, whatever was played: 8 is all that may be due of a frame of input, and nothing is due of a tail. Then 9 is left
 abbrev pub OnlySamples : Type 0
 OnlySamples =
-    (ts : List Turn) (bytes : List ℕ) → let u = turned (freshUnit wall rate frame) ts in
+    (ps : List Passage) (bytes : List ℕ) → let u = through (freshUnit wall rate frame) ps in
     (inputDue u bytes ≡ badInput (firstBad (heard bytes))) × (tailDue u ≡ Accepted)
+
+-- on the program's memory a frame is answered what is due of it, and else 9 or 0
+abbrev pub DueOrNine : Type 0
+DueOrNine =
+    (u : UnitState) (bytes : List ℕ) (store work : List Float) → length store ≡ storeFloats → length work ≡ workFloats
+    → (inputEnds u bytes store work .answer ≡ orElse (inputDue u bytes) (nineOf (frameFor wall u (inputPlay bytes) store)))
+    × (tailEnds u store work .answer ≡ orElse (tailDue u) (nineOf (frameFor wall u Play.tail store)))
 
 -- without the sign's bit, a NaN's pattern and an infinity's are 0x7f80_0000 and above
 abbrev pub Patterns : Type 0

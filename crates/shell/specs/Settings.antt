@@ -25,15 +25,15 @@ abbrev pub times : Times
 times = record { low = ofBits binary32 0x3dcc_cccd; mid = ofBits binary32 0x3dcc_cccd; high = ofBits binary32 0x3dcc_cccd }
 
 -- the coefficients of a filter that multiplies, "(a1, a2, b0, b1, b2)": "all else 0"
-abbrev pub gain : Float → List Float
-gain b0 = +0 ∷ +0 ∷ b0 ∷ +0 ∷ +0 ∷ []
+abbrev pub multiplier : Float → List Float
+multiplier b0 = +0 ∷ +0 ∷ b0 ∷ +0 ∷ +0 ∷ []
 
 -- 0x3f00_0000 is 0.5, and 0x3f80_0000 is 1
 abbrev pub halves : List Float
-halves = gain (ofBits binary32 0x3f00_0000)
+halves = multiplier (ofBits binary32 0x3f00_0000)
 
 abbrev pub lets-by : List Float
-lets-by = gain (ofBits binary32 0x3f80_0000)
+lets-by = multiplier (ofBits binary32 0x3f80_0000)
 
 -- "Band 0 of each line has b0 = 0.5, every other filter b0 = 1": bands 0 to 2 of n lines
 unfoldable pub lineGains : ℕ → List Float

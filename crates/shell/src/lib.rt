@@ -1,7 +1,7 @@
 // Document 01's program between its reads and its writes: what it is set to, and one frame, from bytes
 // to bytes.
 //
-// Its contracts cite `specs/`: what a frame of input and a frame of the tail give, leave and write, and
+// Its contracts cite `specs/`: how a frame of input and a frame of the tail end, the bytes written, and
 // the settings.
 mod settings;
 
@@ -15,7 +15,8 @@ use unit::Outcome;
 use unit::State;
 ghost use mathlib.Core.Path.{_≡_};
 ghost use Rattle.unit.specs.UnitState.{ofState};
-ghost use Rattle.shell.specs.Frames.{inputOutcome, inputStore, inputWork, inputSaid, tailOutcome, tailStore, tailWork, tailSaid};
+ghost use Rattle.machine.specs.Ending.{given};
+ghost use Rattle.shell.specs.Frames.{inputEnds, tailEnds, said};
 
 // A frame of input. The row of the output begins as +0, and a refused call leaves it.
 pub fn input_frame(
@@ -25,10 +26,10 @@ pub fn input_frame(
     work: &mut [f32; WORK],
     out: &mut [u8; 512],
 ) -> Outcome
-    ensures { λ r. ⌜ r ≡ inputOutcome (ofState s) (now (bytes .entry)) (now (store .entry)) ⌝ }
-    ensures { λ _. ⌜ now (store .exit) ≡ inputStore (ofState s) (now (bytes .entry)) (now (store .entry)) ⌝ }
-    ensures { λ _. ⌜ now (work .exit) ≡ inputWork (ofState s) (now (bytes .entry)) (now (work .entry)) ⌝ }
-    ensures { λ _. ⌜ now (out .exit) ≡ inputSaid (ofState s) (now (bytes .entry)) (now (store .entry)) ⌝ }
+    ensures { λ r. ⌜ r ≡ given (inputEnds (ofState s) (now (bytes .entry)) (now (store .entry)) (now (work .entry))) ⌝ }
+    ensures { λ _. ⌜ now (store .exit) ≡ inputEnds (ofState s) (now (bytes .entry)) (now (store .entry)) (now (work .entry)) .memory .store ⌝ }
+    ensures { λ _. ⌜ now (work .exit) ≡ inputEnds (ofState s) (now (bytes .entry)) (now (store .entry)) (now (work .entry)) .memory .work ⌝ }
+    ensures { λ _. ⌜ now (out .exit) ≡ said (inputEnds (ofState s) (now (bytes .entry)) (now (store .entry)) (now (work .entry))) ⌝ }
 {
     let mut input = [0.0f32; 128];
     wire::decode(bytes, &mut input);
@@ -53,10 +54,10 @@ pub fn tail_frame(
     work: &mut [f32; WORK],
     out: &mut [u8; 512],
 ) -> Outcome
-    ensures { λ r. ⌜ r ≡ tailOutcome (ofState s) (now (store .entry)) ⌝ }
-    ensures { λ _. ⌜ now (store .exit) ≡ tailStore (ofState s) (now (store .entry)) ⌝ }
-    ensures { λ _. ⌜ now (work .exit) ≡ tailWork (ofState s) (now (work .entry)) ⌝ }
-    ensures { λ _. ⌜ now (out .exit) ≡ tailSaid (ofState s) (now (store .entry)) ⌝ }
+    ensures { λ r. ⌜ r ≡ given (tailEnds (ofState s) (now (store .entry)) (now (work .entry))) ⌝ }
+    ensures { λ _. ⌜ now (store .exit) ≡ tailEnds (ofState s) (now (store .entry)) (now (work .entry)) .memory .store ⌝ }
+    ensures { λ _. ⌜ now (work .exit) ≡ tailEnds (ofState s) (now (store .entry)) (now (work .entry)) .memory .work ⌝ }
+    ensures { λ _. ⌜ now (out .exit) ≡ said (tailEnds (ofState s) (now (store .entry)) (now (work .entry))) ⌝ }
 {
     let mut row = [0.0f32; 128];
     let a = reverb::tail(s, store, work, &mut row);
