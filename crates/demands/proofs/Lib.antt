@@ -1,5 +1,6 @@
 pub mod Determined
 pub mod DeterminedFace
+pub mod DeterminedProgram
 pub mod Refusals
 pub mod Examples
 pub mod Lent

@@ -1,10 +1,10 @@
 -- Every unit that calls lead to from a fresh: its lists have their lengths, it is in range, and while no frame is open what is held for one is
 -- blank. Assumes nothing.
-use Prim.Native.Nat.{ℕ, zero, suc, _+_, _*_, _%_, _<_}
+use Prim.Native.Nat.{ℕ, zero, suc, _+_, _*_, _<_}
 use mathlib.Core.Path.{_≡_, refl, sym, ap, _∙_}
 use mathlib.Core.Bool.{true, false, not, _&&_}
 use mathlib.Core.List.{List, [], _∷_}
-use native.Mathlib.Nat.{add-zero, mod-lt}
+use native.Mathlib.Nat.{add-zero}
 use native.Mathlib.Numerals.{add-one}
 use native.Mathlib.Omega.{arith}
 use borrow.Author.Tests.{ltb-true, lt-ltb}
@@ -21,7 +21,6 @@ use Rattle.samples.specs.Lists.{allFrom}
 use Rattle.samples.specs.Sizes.{rateOk, frameOk}
 use Rattle.samples.proofs.Laws.{split-and, join-and, accept-either, needed, frame-of}
 use Rattle.samples.proofs.Lists.{over-length}
-use Rattle.delay.specs.declared.Cursors.{Cursors}
 use Rattle.delay.specs.Calls.{both}
 use Rattle.hadamard.specs.Rows.{mixedRows}
 use Rattle.iir.specs.declared.Filter.{Filter}
@@ -33,7 +32,8 @@ use Rattle.unit.specs.Fresh.{blank, noFrame, freshUnit}
 use Rattle.unit.specs.Range.{below, cursorsIn, unmarked, blankFilters, blankOpen, inRange}
 use Rattle.judges.specs.Judges.{judgedFresh}
 use Rattle.stages.specs.Frame.{newFilters, frameFrom, lineRows, outputRow}
-use Rattle.stages.specs.Settle.{movedBy, allMoved, moved}
+use Rattle.stages.specs.Settle.{moved}
+use Rattle.stages.proofs.Within.{cursors-moved}
 use Rattle.stages.proofs.RowLaws.{length-filtersOf, length-bandEnds}
 use Rattle.rows.specs.Parts.{lineEnds}
 use Rattle.outputs.specs.Parts.{outputEnds}
@@ -50,37 +50,18 @@ use Rattle.demands.proofs.LineRings.{length-moved}
 use Rattle.demands.proofs.AnyOrderMarks.{true≢false}
 use Rattle.demands.proofs.AnyOrderOpen.{opened-told}
 
--- ---- cursors of rings that have a length: those of a fresh unit are in them, and those that move stay in them
+-- ---- cursors of rings that have a length: those of a fresh unit are in them
 
 abbrev Some : List ℕ → Type 0
 Some ls = allFrom (λ i l. ltb 0 l) 0 ls ≡ true
 
-below-moved : (f l : ℕ) (c : Cursors) → 0 < l → below l (movedBy f l c) ≡ true
-unfolding below
-below-moved f l c h =
-    join-and (lt-ltb ((c .read .0 + f) % l) l (mod-lt (c .read .0 + f) h)) (lt-ltb ((c .write .0 + f) % l) l (mod-lt (c .write .0 + f) h))
-
-module _ (f : ℕ) (ls : List ℕ) where
+module _ (ls : List ℕ) where
   -- ring k and those after it
   ring-at : (k l : ℕ) (ms : List ℕ) → drop k ls ≡ l ∷ ms → getD ls k 0 ≡ l
   ring-at k l ms e = sym (getD-drop k ls 0 0 ∙ ap (λ (j : ℕ). getD ls j 0) (add-zero k)) ∙ ap (λ (x : List ℕ). getD x 0 0) e
 
   next-at : (k l : ℕ) (ms : List ℕ) → drop k ls ≡ l ∷ ms → drop (suc k) ls ≡ ms
   next-at k l ms e = ap (λ (j : ℕ). drop j ls) (sym (add-one k)) ∙ sym (drop-drop 1 k ls) ∙ ap (drop 1) e
-
-  in-moved : (k j : ℕ) (ms : List ℕ) (cs : List Cursors) → drop k ls ≡ ms → allFrom (λ i l. ltb 0 l) j ms ≡ true
-      → allFrom (λ i c. below (getD ls i 0) c) k cs ≡ true → allFrom (λ i c. below (getD ls i 0) c) k (allMoved f ms cs) ≡ true
-  unfolding allMoved
-  in-moved k j [] cs e s h = h
-  in-moved k j (l ∷ ms) [] e s h = refl
-  in-moved k j (l ∷ ms) (c ∷ cs) e s h =
-      let here = split-and (ltb 0 l) _ s in
-      join-and (ap (λ (x : ℕ). below x (movedBy f l c)) (ring-at k l ms e) ∙ below-moved f l c (ltb-true 0 l (here .0)))
-      (in-moved (suc k) (suc j) ms cs (next-at k l ms e) (here .1) (split-and (below (getD ls k 0) c) _ h .1))
-
-  pub moved-in : (cs : List Cursors) → Some ls → cursorsIn ls cs ≡ true → cursorsIn ls (allMoved f ls cs) ≡ true
-  unfolding cursorsIn
-  moved-in cs s h = in-moved 0 0 ls cs refl s h
 
   fresh-from : (k j n : ℕ) (ms : List ℕ) → drop k ls ≡ ms → length ms ≡ n → allFrom (λ i l. ltb 0 l) j ms ≡ true
       → allFrom (λ i c. below (getD ls i 0) c) k (replicate n (both 0)) ≡ true
@@ -166,11 +147,10 @@ module _ (m : Model) (built : Built m) where
   moved-parts : (u v : UnitState) → Parts m u → v .settings ≡ u .settings → v .cursors ≡ moved m u → Parts m v
   moved-parts u v p s c =
       let f = u .settings .frame in
-      let some : 0 < f = omega (arith, frame-of f (split-and (rateOk (u .settings .rate)) (frameOk f) (p .sizes) .1) .lo) in
       record {
         sizes = ap (λ (x : Settings). rateOk (x .rate) && frameOk (x .frame)) s ∙ p .sizes;
-        lines = (λ i. cursorsIn (lengthsOf m (s i .frame)) (c i .lines)) ∙ moved-in f (lengths m u) (u .cursors .lines) (lines-some m f (m .lines) 0 0 some .0) (p .lines);
-        passes = (λ i. cursorsIn (m .passes) (c i .passes)) ∙ moved-in f (m .passes) (u .cursors .passes) (built .some) (p .passes);
+        lines = (λ i. cursorsIn (lengthsOf m (s i .frame)) (c i .lines)) ∙ cursors-moved f (lengths m u) (u .cursors .lines) (p .lines);
+        passes = (λ i. cursorsIn (m .passes) (c i .passes)) ∙ cursors-moved f (m .passes) (u .cursors .passes) (p .passes);
       }
 
   same-parts : (u v : UnitState) → Parts m u → v .settings ≡ u .settings → v .cursors ≡ u .cursors → Parts m v
@@ -198,8 +178,8 @@ module _ (m : Model) (built : Built m) where
             free-range m (freshUnit m rate frame)
             (record {
               sizes = ok;
-              lines = fresh-in frame (lengthsOf m frame) (m .lines) (lines .1) (lines .0);
-              passes = fresh-in frame (m .passes) (length (m .passes)) refl (built .some);
+              lines = fresh-in (lengthsOf m frame) (m .lines) (lines .1) (lines .0);
+              passes = fresh-in (m .passes) (length (m .passes)) refl (built .some);
             })
             refl;
         free = λ e. refl;

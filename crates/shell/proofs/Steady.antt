@@ -22,6 +22,7 @@ use Rattle.unit.specs.Sizes.{lengthsFrom, lengthsOf, total, storeLen, workLen}
 use Rattle.unit.specs.Range.{below, cursorsIn, unmarked, blankFilters, blankOpen, inRange}
 use Rattle.judges.specs.Judges.{judged}
 use Rattle.stages.specs.Frame.{newFilters}
+use Rattle.stages.proofs.Within.{cursors-moved}
 use Rattle.stages.specs.Settle.{movedBy, allMoved}
 use Rattle.machine.specs.Whole as Play
 use Rattle.machine.specs.Whole.{Play, frameFor, countFor, movedOn}
@@ -41,30 +42,6 @@ pub record Steady (u : UnitState) : Type 0 where
 begins : Steady (freshUnit wall rate frame)
 unfolding below cursorsIn lengthsFrom
 begins = record { set-to = refl; lines-in = refl; passes-in = refl; shut = refl }
-
--- ---- cursors that move stay below their ring's length, of rings of any lengths
-
-below-moved : (f l : ℕ) (c : Cursors) → below l c ≡ true → below l (movedBy f l c) ≡ true
-unfolding below
-below-moved f l c e =
-    let h : 0 < l = omega (arith, ltb-true (c .read .0) l (split-and _ _ e .0)) in
-    join-and (lt-ltb _ _ (mod-lt (c .read .0 + f) h)) (lt-ltb _ _ (mod-lt (c .write .0 + f) h))
-
--- p k asks the same as `below` of the first length, and so on
-all-moved : (p : ℕ → Cursors → Bool) (f : ℕ) (ls : List ℕ) (cs : List Cursors) (k : ℕ) → ((i : ℕ) (c : Cursors) → p (k + i) c ≡ below (getD ls i 0) c)
-    → allFrom p k cs ≡ true → allFrom p k (allMoved f ls cs) ≡ true
-unfolding allMoved
-all-moved p f [] cs k h e = e
-all-moved p f (l ∷ ls) [] k h e = refl
-all-moved p f (l ∷ ls) (c ∷ cs) k h e =
-    let here : (c : Cursors) → p k c ≡ below l c = λ c. ap (λ (n : ℕ). p n c) (sym (add-zero k)) ∙ h 0 c in
-    let past : (i : ℕ) (c : Cursors) → p (suc k + i) c ≡ below (getD ls i 0) c = λ i c. ap (λ (n : ℕ). p n c) (suc-add k i ∙ sym (add-suc k i)) ∙ h (suc i) c in
-    let q = split-and (p k c) (allFrom p (suc k) cs) e in
-    join-and (here (movedBy f l c) ∙ below-moved f l c (sym (here c) ∙ q .0)) (all-moved p f ls cs (suc k) past (q .1))
-
-pub cursors-moved : (f : ℕ) (ls : List ℕ) (cs : List Cursors) → cursorsIn ls cs ≡ true → cursorsIn ls (allMoved f ls cs) ≡ true
-unfolding cursorsIn
-cursors-moved f ls cs e = all-moved (λ i c. below (getD ls i 0) c) f ls cs 0 (λ i c. ap (λ (n : ℕ). below (getD ls n 0) c) (zero-add i)) e
 
 -- ---- a whole call leaves a steady unit
 
