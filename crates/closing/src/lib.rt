@@ -5,6 +5,7 @@ mod ends;
 
 use crate::ends::concluded;
 use crate::ends::shut;
+use frame::Rings;
 use frame::close_frame;
 use judges::judge_abandon;
 use judges::judge_close;
@@ -33,11 +34,16 @@ pub fn close(s: State, store: &mut [f32], work: &mut [f32], output: &mut [f32]) 
         return quiet(answer, s);
     }
     let f = s.frame;
-    let ls = lengths(f);
-    let cs = s.lines;
-    let qs = s.passes;
+    let lengths = lengths(f);
+    let lines = s.lines;
+    let passes = s.passes;
     let fs = s.filters;
-    let r = close_frame(f, ls, cs, qs, fs, store, work, output);
+    let rings = Rings {
+        lengths,
+        lines,
+        passes,
+    };
+    let r = close_frame(f, rings, fs, store, work, output);
     concluded(s, r)
 }
 

@@ -571,10 +571,10 @@ outputs-make-output κs a x y s t p q = (p .0 ∙ sym (q .0), p .1 ∙ sym (q .1
 
 -- ---- frame
 
-pub frame-run-frame : DeterminedWith3 3 frame-run-frame-kinds.ps frame-run-frame-kinds.r frame-run-frame-reads.Post (λ κs s. s .1 .1 .1 .1 .1 .1 .0 .now) (λ κs s. s .1 .1 .1 .1 .1 .1 .1 .0 .now) (λ κs s. s .1 .1 .1 .1 .1 .1 .1 .1 .0 .now)
+pub frame-run-frame : DeterminedWith3 3 frame-run-frame-kinds.ps frame-run-frame-kinds.r frame-run-frame-reads.Post (λ κs s. s .1 .1 .1 .1 .0 .now) (λ κs s. s .1 .1 .1 .1 .1 .0 .now) (λ κs s. s .1 .1 .1 .1 .1 .1 .0 .now)
 frame-run-frame κs a x y s t p q = (p .0 ∙ sym (q .0), p .1 .0 ∙ sym (q .1 .0), p .1 .1 .0 ∙ sym (q .1 .1 .0), p .1 .1 .1 ∙ sym (q .1 .1 .1))
 
-pub frame-close-frame : DeterminedWith3 3 frame-close-frame-kinds.ps frame-close-frame-kinds.r frame-close-frame-reads.Post (λ κs s. s .1 .1 .1 .1 .1 .0 .now) (λ κs s. s .1 .1 .1 .1 .1 .1 .0 .now) (λ κs s. s .1 .1 .1 .1 .1 .1 .1 .0 .now)
+pub frame-close-frame : DeterminedWith3 3 frame-close-frame-kinds.ps frame-close-frame-kinds.r frame-close-frame-reads.Post (λ κs s. s .1 .1 .1 .0 .now) (λ κs s. s .1 .1 .1 .1 .0 .now) (λ κs s. s .1 .1 .1 .1 .1 .0 .now)
 frame-close-frame κs a x y s t p q = (p .0 ∙ sym (q .0), p .1 .0 ∙ sym (q .1 .0), p .1 .1 .0 ∙ sym (q .1 .1 .0), p .1 .1 .1 ∙ sym (q .1 .1 .1))
 
 -- ---- reverb

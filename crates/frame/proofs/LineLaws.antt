@@ -11,12 +11,12 @@ use Rattle.delay.proofs.Laws.{Moves}
 use Rattle.stages.proofs.RowLaws.{Held}
 use Rattle.samples.proofs.Turns.{more}
 use Rattle.samples.proofs.Rows.{Left, row-fits}
-use Rattle.frame.specs.Workers.{Rings}
+use Rattle.frame.specs.Workers.{RingsFit}
 
 -- ---- the rings of n lines
 
 module _ (f : ℕ) (ls : List ℕ) (cs : List Cursors) (len : ℕ) where
-  rings-held : (n i a : ℕ) → Rings f n i a ls cs len → Held f n i ls (len - a)
+  rings-held : (n i a : ℕ) → RingsFit f n i a ls cs len → Held f n i ls (len - a)
   rings-held zero i a r = tt
   rings-held (suc n) i a r =
       let l = getD ls i 0 in
@@ -24,12 +24,12 @@ module _ (f : ℕ) (ls : List ℕ) (cs : List Cursors) (len : ℕ) where
       (r .0, omega (arith, r .4), rw e (rings-held n (i + 1) (a + l) (r .5)))
 
   -- hold a frame each
-  pub lines-held : (n : ℕ) → Rings f n 0 0 ls cs len → Held f n 0 ls len
+  pub lines-held : (n : ℕ) → RingsFit f n 0 0 ls cs len → Held f n 0 ls len
   lines-held n r = rw sub-zero at (rings-held n 0 0 r)
 
-  module _ (n i a : ℕ) (r : Rings f (n - i) i a ls cs len) (h : i < n) where
+  module _ (n i a : ℕ) (r : RingsFit f (n - i) i a ls cs len) (h : i < n) where
     -- are those of line i and of the lines after it
-    pub here : Rings f (suc (n - (i + 1))) i a ls cs len
+    pub here : RingsFit f (suc (n - (i + 1))) i a ls cs len
     here = rw (more n i h) at r
 
     -- the ring and the row of line i lie within what is lent

@@ -21,14 +21,14 @@ use Rattle.stages.specs.Lines.{readRows}
 use Rattle.stages.specs.Settle.{putRows}
 use Rattle.stages.specs.Steps.{copied}
 use Rattle.stages.proofs.RowLaws.{total-more, copied-all, put-rings, length-putRows}
-use Rattle.frame.specs.Workers.{Rings}
+use Rattle.frame.specs.Workers.{RingsFit}
 use Rattle.frame.proofs.LineLaws.{lines-held, here, moves}
 
 -- ---- a frame read of each line: a is where line i's ring begins, b where its row does
 
 abbrev pub Reading : ℕ → ℕ → List ℕ → List Cursors → List Float → List Float → ℕ → ℕ → ℕ → ℕ → List Float → Type 0
 Reading n f ls cs store X len i a b rows =
-    Left n f i b len × (length rows ≡ len) × Rings f (n - i) i a ls cs (length store)
+    Left n f i b len × (length rows ≡ len) × RingsFit f (n - i) i a ls cs (length store)
     × (take b rows ++ readRows f (n - i) i ls cs (drop a store) ≡ X)
 
 -- ---- a frame put into each line: what lies after the lines stays
@@ -38,7 +38,7 @@ kept ls m i store = drop (total (take m (drop i ls))) store
 
 abbrev pub Putting : ℕ → ℕ → List ℕ → List Cursors → List Float → List Float → ℕ → ℕ → ℕ → ℕ → List Float → Type 0
 Putting n f ls cs rows X len i a b store =
-    Left n f i b (length rows) × (length store ≡ len) × Rings f (n - i) i a ls cs (length store)
+    Left n f i b (length rows) × (length store ≡ len) × RingsFit f (n - i) i a ls cs (length store)
     × (take a store ++ putRows f (n - i) i ls cs (drop b rows) (kept ls (n - i) i (drop a store)) (drop a store) ≡ X)
 
 kept-next : (ls : List ℕ) (m i a : ℕ) (store : List Float) → kept ls (suc m) i (drop a store) ≡ kept ls m (i + 1) (drop (a + getD ls i 0) store)
@@ -62,7 +62,7 @@ module _ (n f : ℕ) (ls : List ℕ) (cs : List Cursors) (some : 0 < f) (store r
   abbrev row : List Float
   row = take (b + f - b) (drop b rows)
 
-  module _ (h : i < n) (r : Rings f (n - i) i a ls cs (length store)) (room : b + f ≤ length rows) where
+  module _ (h : i < n) (r : RingsFit f (n - i) i a ls cs (length store)) (room : b + f ≤ length rows) where
     ring-long : length ring ≡ l
     ring-long = lent-long a store l (here f ls cs (length store) n i a r h .4)
 
@@ -126,7 +126,7 @@ end-set rings store last h q =
     m .1 last ∙ ap (λ (x : List Float). take at store ++ x) (q ∙ copied-all rings old l)
 
 -- the rings that the rows went into stay, and others lie after them
-pub settle-join : (n f : ℕ) (ls : List ℕ) (cs : List Cursors) (rows rings store w : List Float) → Rings f n 0 0 ls cs (length store)
+pub settle-join : (n f : ℕ) (ls : List ℕ) (cs : List Cursors) (rows rings store w : List Float) → RingsFit f n 0 0 ls cs (length store)
     → total (take n ls) + length rings ≡ length store → w ≡ putRows f n 0 ls cs rows (drop (total (take n ls)) store) store
     → take (length w - length rings) w ++ rings ≡ putRows f n 0 ls cs rows rings store
 settle-join n f ls cs rows rings store w r h e =

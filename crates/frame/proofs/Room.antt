@@ -23,7 +23,7 @@ use Rattle.unit.proofs.Ranges.{Below, cursors-at, holds-at}
 use Rattle.rows.proofs.RowsOf.{work-parts}
 use Rattle.stages.specs.Frame.{Frame, frameFrom, frameIn}
 use Rattle.stages.proofs.RowLaws.{total-more}
-use Rattle.frame.specs.Workers.{Rings, Within, WholeFits, frameBy}
+use Rattle.frame.specs.Workers.{RingsFit, Within, WholeFits, frameBy}
 
 -- rings that hold a frame, with their cursors within them
 module _ (f : ℕ) (ls : List ℕ) (cs : List Cursors) (some : 0 < f) (hold : ringsHold f ls ≡ true) (all : cursorsIn ls cs ≡ true) where
@@ -36,7 +36,7 @@ module _ (f : ℕ) (ls : List ℕ) (cs : List Cursors) (some : 0 < f) (hold : ri
       let b = line-at i (omega arith) in
       (holds-at f ls hold i (omega arith) .1, b .read, b .write, lines-within n (i + 1) (omega arith))
 
-  pub rings-of : (n i a len : ℕ) → i + n ≡ length ls → a + total (take n (drop i ls)) ≤ len → Rings f n i a ls cs len
+  pub rings-of : (n i a len : ℕ) → i + n ≡ length ls → a + total (take n (drop i ls)) ≤ len → RingsFit f n i a ls cs len
   unfolding total
   rings-of zero i a len e h = tt
   rings-of (suc n) i a len e h =

@@ -14,6 +14,7 @@ use Rattle.unit.specs.Sizes.{total}
 use Rattle.stages.specs.Lines.{readRows}
 use Rattle.stages.specs.Frame.{Frame, lineRows, outputRow, newFilters}
 use Rattle.stages.specs.Settle.{filtersFinite, frameFinite, putRows}
+use Rattle.frame.specs.declared.Rings.{Rings}
 use Rattle.frame.specs.declared.whole.Judged.{Judged}
 
 -- a whole frame's rows: the input, the rows read, those to put, the output and the allpass rings
@@ -21,11 +22,11 @@ unfoldable pub framed : List Float → Frame → List Float
 framed input r = input ++ (r .reads ++ (r .lines .put ++ (r .output .out ++ r .output .rings)))
 
 -- the rings of n lines, the first at a, lie one after the other within `len` floats; each holds a frame of f, and its cursors are within it
-abbrev pub Rings : ℕ → ℕ → ℕ → ℕ → List ℕ → List Cursors → ℕ → Type 0
-Rings f zero i a ls cs len = Unit {0}
-Rings f (suc n) i a ls cs len =
+abbrev pub RingsFit : ℕ → ℕ → ℕ → ℕ → List ℕ → List Cursors → ℕ → Type 0
+RingsFit f zero i a ls cs len = Unit {0}
+RingsFit f (suc n) i a ls cs len =
     (f ≤ getD ls i 0) × (getD ls i 0 ≤ 65536) × (getD cs i (both 0) .read .0 < getD ls i 0) × (getD cs i (both 0) .write .0 < getD ls i 0)
-    × (a + getD ls i 0 ≤ len) × Rings f n (i + 1) (a + getD ls i 0) ls cs len
+    × (a + getD ls i 0 ≤ len) × RingsFit f n (i + 1) (a + getD ls i 0) ls cs len
 
 -- what the workers over n lines ask: rows of n frames of f samples, and the rings
 pub record LinesFit (n f : ℕ) (ls : List ℕ) (cs : List Cursors) (store rows : ℕ) : Type 0 where
@@ -33,7 +34,7 @@ pub record LinesFit (n f : ℕ) (ls : List ℕ) (cs : List Cursors) (store rows 
   pub some : 0 < f
   pub small : f ≤ 65536
   pub rows-are : rows ≡ n * f
-  pub rings : Rings f n 0 0 ls cs store
+  pub rings : RingsFit f n 0 0 ls cs store
 
 -- the cursors of n rings, from ring i on, are within them
 abbrev pub Within : ℕ → ℕ → List ℕ → List Cursors → Type 0
@@ -49,7 +50,7 @@ pub record FrameFits (n f : ℕ) (ls : List ℕ) (cs : List Cursors) (ps : List 
   pub frame : 0 < f
   pub small : f ≤ 65536
   pub fours : f % 4 ≡ 0
-  pub rings : Rings f n 0 0 ls cs store
+  pub rings : RingsFit f n 0 0 ls cs store
   pub passes : total ps ≤ 65536
   pub four : length ps ≡ 4
   pub store-is : store ≡ total (take n ls) + total ps
@@ -65,6 +66,10 @@ frameBy n f k d tail ls cs ps qs fs input store =
       lines = lineRows n f k tail fs input reads;
       output = outputRow n f d ps qs fs (drop (total (take n ls)) store) reads;
     }
+
+-- the same on a unit's rings
+abbrev pub frameOn : ℕ → ℕ → Float → Float → Bool → Rings → List ℕ → List Filter → List Float → List Float → Frame
+frameOn n f k d tail rings ps fs input store = frameBy n f k d tail (rings .lengths) (rings .lines) ps (rings .passes) fs input store
 
 -- what a whole frame of model m asks of the memory lent, with the lines' lengths ls and cursors cs and the allpass rings' cursors qs
 pub record WholeFits (m : Model) (f : ℕ) (ls : List ℕ) (cs qs : List Cursors) (store work output : ℕ) : Type 0 where

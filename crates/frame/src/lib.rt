@@ -26,6 +26,14 @@ ghost use Rattle.stages.specs.Settle.{allMoved};
 ghost use Rattle.frame.specs.Workers.{Within, WholeFits};
 ghost use Rattle.frame.specs.Steps.{ran, ranWithRoom, finished, finishedWithRoom};
 
+// The rings of a unit: the lengths of the lines' rings, and the cursors of those and of the allpass
+// rings.
+pub struct Rings {
+    pub lengths: [usize; LINES],
+    pub lines: [Cursors; LINES],
+    pub passes: [Cursors; 4],
+}
+
 // What a frame came to: whether all of it is finite, its filters, and the cursors of the rings after
 // it.
 pub struct Stepped {
@@ -35,26 +43,27 @@ pub struct Stepped {
     pub passes: [Cursors; 4],
 }
 
-// A whole frame of the wall unit: through the filters `fs`, on lines of the lengths `ls` with the cursors
-// `cs`, and on allpass rings with `qs`. The work memory begins with the input, which a tail doesn't add.
+// A whole frame of the wall unit, through the filters `fs` and on its rings. The work memory begins with
+// the input, which a tail doesn't add.
 // Where all of it is finite the frame is put into the store and the output. The work memory is cleared.
 // Where the memory lent has no room for it nothing is done.
 pub fn run_frame(
     f: usize,
-    ls: [usize; LINES],
+    rings: Rings,
     tail: bool,
-    cs: [Cursors; LINES],
-    qs: [Cursors; 4],
     fs: [Filter; FILTERS],
     store: &mut [f32],
     work: &mut [f32],
     output: &mut [f32],
 ) -> Stepped
-    ensures { λ r. ⌜ r ≡ ran wall f ls tail cs qs fs (now (store .entry)) (now (work .entry)) (now (output .entry)) .stepped ⌝ }
-    ensures { λ _. ⌜ now (store .exit) ≡ ran wall f ls tail cs qs fs (now (store .entry)) (now (work .entry)) (now (output .entry)) .store ⌝ }
-    ensures { λ _. ⌜ now (work .exit) ≡ ran wall f ls tail cs qs fs (now (store .entry)) (now (work .entry)) (now (output .entry)) .work ⌝ }
-    ensures { λ _. ⌜ now (output .exit) ≡ ran wall f ls tail cs qs fs (now (store .entry)) (now (work .entry)) (now (output .entry)) .output ⌝ }
+    ensures { λ r. ⌜ r ≡ ran wall f (rings .lengths) tail (rings .lines) (rings .passes) fs (now (store .entry)) (now (work .entry)) (now (output .entry)) .stepped ⌝ }
+    ensures { λ _. ⌜ now (store .exit) ≡ ran wall f (rings .lengths) tail (rings .lines) (rings .passes) fs (now (store .entry)) (now (work .entry)) (now (output .entry)) .store ⌝ }
+    ensures { λ _. ⌜ now (work .exit) ≡ ran wall f (rings .lengths) tail (rings .lines) (rings .passes) fs (now (store .entry)) (now (work .entry)) (now (output .entry)) .work ⌝ }
+    ensures { λ _. ⌜ now (output .exit) ≡ ran wall f (rings .lengths) tail (rings .lines) (rings .passes) fs (now (store .entry)) (now (work .entry)) (now (output .entry)) .output ⌝ }
 {
+    let ls = rings.lengths;
+    let cs = rings.lines;
+    let qs = rings.passes;
     if !room_ok(f, ls, cs, qs, store.len(), work.len(), output.len()) {
         return Stepped {
             ok: false,
@@ -63,26 +72,24 @@ pub fn run_frame(
             passes: qs,
         };
     }
-    wall_frame(f, ls, tail, cs, qs, fs, store, work, output)
+    wall_frame(f, rings, tail, fs, store, work, output)
 }
 
 // The same in memory that has room for it.
 fn wall_frame(
     f: usize,
-    ls: [usize; LINES],
+    rings: Rings,
     tail: bool,
-    cs: [Cursors; LINES],
-    qs: [Cursors; 4],
     fs: [Filter; FILTERS],
     store: &mut [f32],
     work: &mut [f32],
     output: &mut [f32],
 ) -> Stepped
-    requires { ⌜ WholeFits wall f ls cs qs (length (now store)) (length (now work)) (length (now output)) ⌝ }
-    ensures { λ r. ⌜ r ≡ ranWithRoom wall f ls tail cs qs fs (now (store .entry)) (now (work .entry)) (now (output .entry)) .stepped ⌝ }
-    ensures { λ _. ⌜ now (store .exit) ≡ ranWithRoom wall f ls tail cs qs fs (now (store .entry)) (now (work .entry)) (now (output .entry)) .store ⌝ }
-    ensures { λ _. ⌜ now (work .exit) ≡ ranWithRoom wall f ls tail cs qs fs (now (store .entry)) (now (work .entry)) (now (output .entry)) .work ⌝ }
-    ensures { λ _. ⌜ now (output .exit) ≡ ranWithRoom wall f ls tail cs qs fs (now (store .entry)) (now (work .entry)) (now (output .entry)) .output ⌝ }
+    requires { ⌜ WholeFits wall f (rings .lengths) (rings .lines) (rings .passes) (length (now store)) (length (now work)) (length (now output)) ⌝ }
+    ensures { λ r. ⌜ r ≡ ranWithRoom wall f (rings .lengths) tail (rings .lines) (rings .passes) fs (now (store .entry)) (now (work .entry)) (now (output .entry)) .stepped ⌝ }
+    ensures { λ _. ⌜ now (store .exit) ≡ ranWithRoom wall f (rings .lengths) tail (rings .lines) (rings .passes) fs (now (store .entry)) (now (work .entry)) (now (output .entry)) .store ⌝ }
+    ensures { λ _. ⌜ now (work .exit) ≡ ranWithRoom wall f (rings .lengths) tail (rings .lines) (rings .passes) fs (now (store .entry)) (now (work .entry)) (now (output .entry)) .work ⌝ }
+    ensures { λ _. ⌜ now (output .exit) ≡ ranWithRoom wall f (rings .lengths) tail (rings .lines) (rings .passes) fs (now (store .entry)) (now (work .entry)) (now (output .entry)) .output ⌝ }
 {
     let r = judge_frame(
         LINES,
@@ -90,31 +97,25 @@ fn wall_frame(
         FACTOR,
         DIVISOR,
         tail,
-        ls,
-        cs,
+        rings,
         PASSES,
-        qs,
         fs,
         store,
         work,
         output,
     );
     let filters = r.filters;
-    moved_on(r.ok, f, ls, cs, qs, filters)
+    moved_on(r.ok, f, rings, filters)
 }
 
 // What a frame came to, its filters `fs`, with the cursors moved on.
-fn moved_on(
-    ok: bool,
-    f: usize,
-    ls: [usize; LINES],
-    cs: [Cursors; LINES],
-    qs: [Cursors; 4],
-    fs: [Filter; FILTERS],
-) -> Stepped
-    requires { ⌜ (f ≤ 1024) × Within (wall .lines) 0 ls cs × Within (length (wall .passes)) 0 (wall .passes) qs ⌝ }
-    ensures { λ r. ⌜ r ≡ record { ok = ok; filters = fs; lines = allMoved f ls cs; passes = allMoved f (wall .passes) qs } ⌝ }
+fn moved_on(ok: bool, f: usize, rings: Rings, fs: [Filter; FILTERS]) -> Stepped
+    requires { ⌜ (f ≤ 1024) × Within (wall .lines) 0 (rings .lengths) (rings .lines) × Within (length (wall .passes)) 0 (wall .passes) (rings .passes) ⌝ }
+    ensures { λ r. ⌜ r ≡ record { ok = ok; filters = fs; lines = allMoved f (rings .lengths) (rings .lines); passes = allMoved f (wall .passes) (rings .passes) } ⌝ }
 {
+    let ls = rings.lengths;
+    let cs = rings.lines;
+    let qs = rings.passes;
     let lines = move_lines(LINES, f, ls, cs);
     let passes = move_passes(f, PASSES, qs);
     Stepped {
@@ -130,19 +131,20 @@ fn moved_on(
 // nothing is done.
 pub fn close_frame(
     f: usize,
-    ls: [usize; LINES],
-    cs: [Cursors; LINES],
-    qs: [Cursors; 4],
+    rings: Rings,
     fs: [Filter; FILTERS],
     store: &mut [f32],
     work: &mut [f32],
     output: &mut [f32],
 ) -> Stepped
-    ensures { λ r. ⌜ r ≡ finished wall f ls cs qs fs (now (store .entry)) (now (work .entry)) (now (output .entry)) .stepped ⌝ }
-    ensures { λ _. ⌜ now (store .exit) ≡ finished wall f ls cs qs fs (now (store .entry)) (now (work .entry)) (now (output .entry)) .store ⌝ }
-    ensures { λ _. ⌜ now (work .exit) ≡ finished wall f ls cs qs fs (now (store .entry)) (now (work .entry)) (now (output .entry)) .work ⌝ }
-    ensures { λ _. ⌜ now (output .exit) ≡ finished wall f ls cs qs fs (now (store .entry)) (now (work .entry)) (now (output .entry)) .output ⌝ }
+    ensures { λ r. ⌜ r ≡ finished wall f (rings .lengths) (rings .lines) (rings .passes) fs (now (store .entry)) (now (work .entry)) (now (output .entry)) .stepped ⌝ }
+    ensures { λ _. ⌜ now (store .exit) ≡ finished wall f (rings .lengths) (rings .lines) (rings .passes) fs (now (store .entry)) (now (work .entry)) (now (output .entry)) .store ⌝ }
+    ensures { λ _. ⌜ now (work .exit) ≡ finished wall f (rings .lengths) (rings .lines) (rings .passes) fs (now (store .entry)) (now (work .entry)) (now (output .entry)) .work ⌝ }
+    ensures { λ _. ⌜ now (output .exit) ≡ finished wall f (rings .lengths) (rings .lines) (rings .passes) fs (now (store .entry)) (now (work .entry)) (now (output .entry)) .output ⌝ }
 {
+    let ls = rings.lengths;
+    let cs = rings.lines;
+    let qs = rings.passes;
     if !room_ok(f, ls, cs, qs, store.len(), work.len(), output.len()) {
         return Stepped {
             ok: false,
@@ -151,26 +153,26 @@ pub fn close_frame(
             passes: qs,
         };
     }
-    wall_close(f, ls, cs, qs, fs, store, work, output)
+    wall_close(f, rings, fs, store, work, output)
 }
 
 // The same in memory that has room for it.
 fn wall_close(
     f: usize,
-    ls: [usize; LINES],
-    cs: [Cursors; LINES],
-    qs: [Cursors; 4],
+    rings: Rings,
     fs: [Filter; FILTERS],
     store: &mut [f32],
     work: &mut [f32],
     output: &mut [f32],
 ) -> Stepped
-    requires { ⌜ WholeFits wall f ls cs qs (length (now store)) (length (now work)) (length (now output)) ⌝ }
-    ensures { λ r. ⌜ r ≡ finishedWithRoom wall f ls cs qs fs (now (store .entry)) (now (work .entry)) (now (output .entry)) .stepped ⌝ }
-    ensures { λ _. ⌜ now (store .exit) ≡ finishedWithRoom wall f ls cs qs fs (now (store .entry)) (now (work .entry)) (now (output .entry)) .store ⌝ }
-    ensures { λ _. ⌜ now (work .exit) ≡ finishedWithRoom wall f ls cs qs fs (now (store .entry)) (now (work .entry)) (now (output .entry)) .work ⌝ }
-    ensures { λ _. ⌜ now (output .exit) ≡ finishedWithRoom wall f ls cs qs fs (now (store .entry)) (now (work .entry)) (now (output .entry)) .output ⌝ }
+    requires { ⌜ WholeFits wall f (rings .lengths) (rings .lines) (rings .passes) (length (now store)) (length (now work)) (length (now output)) ⌝ }
+    ensures { λ r. ⌜ r ≡ finishedWithRoom wall f (rings .lengths) (rings .lines) (rings .passes) fs (now (store .entry)) (now (work .entry)) (now (output .entry)) .stepped ⌝ }
+    ensures { λ _. ⌜ now (store .exit) ≡ finishedWithRoom wall f (rings .lengths) (rings .lines) (rings .passes) fs (now (store .entry)) (now (work .entry)) (now (output .entry)) .store ⌝ }
+    ensures { λ _. ⌜ now (work .exit) ≡ finishedWithRoom wall f (rings .lengths) (rings .lines) (rings .passes) fs (now (store .entry)) (now (work .entry)) (now (output .entry)) .work ⌝ }
+    ensures { λ _. ⌜ now (output .exit) ≡ finishedWithRoom wall f (rings .lengths) (rings .lines) (rings .passes) fs (now (store .entry)) (now (work .entry)) (now (output .entry)) .output ⌝ }
 {
+    let ls = rings.lengths;
+    let cs = rings.lines;
     let ok = finish_frame(LINES, f, ls, cs, fs, store, work, output);
-    moved_on(ok, f, ls, cs, qs, fs)
+    moved_on(ok, f, rings, fs)
 }

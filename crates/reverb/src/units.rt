@@ -1,5 +1,6 @@
 // A whole frame of a unit, and what it leaves of the state.
 use audio_buffer::verdict;
+use frame::Rings;
 use frame::Stepped;
 use frame::run_frame;
 use iir::Filter;
@@ -67,9 +68,14 @@ pub(crate) fn whole_frame(
     ensures { λ _. ⌜ now (output .exit) ≡ playing s tail fs (count .0) (now (store .entry)) (now (work .entry)) (now (output .entry)) .output ⌝ }
 {
     let f = s.frame;
-    let ls = lengths(f);
-    let cs = s.lines;
-    let qs = s.passes;
-    let r = run_frame(f, ls, tail, cs, qs, fs, store, work, output);
+    let lengths = lengths(f);
+    let lines = s.lines;
+    let passes = s.passes;
+    let rings = Rings {
+        lengths,
+        lines,
+        passes,
+    };
+    let r = run_frame(f, rings, tail, fs, store, work, output);
     conclude(s, r, count)
 }

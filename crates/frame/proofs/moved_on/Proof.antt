@@ -1,6 +1,5 @@
 -- `frame::moved_on` meets its contract. Assumes nothing.
 use borrow.Author.Needs.{needs}
-use native.Mathlib.Omega.{arith}
 use mathlib.Core.Path.{ap, _∙_}
 use mathlib.Core.List.{List}
 use Prim.Native.Nat.{ℕ}
@@ -11,8 +10,8 @@ use Rattle.frame.proofs.moved_on.Tie as tie
 
 returns : tie.Need-returns
 returns c =
-    let a = c .before .before .args in
-    let lines = c .before .move-lines .ensures ∙ ap (λ (ls : List ℕ). allMoved (a .f) ls (a .cs)) (every-line (a .ls) (omega arith)) in
+    let a = c .before .before .before .before .before .args in
+    let lines = c .before .move-lines .ensures ∙ ap (λ (ls : List ℕ). allMoved (a .f) ls (a .rings .lines)) (every-line (a .rings .lengths) (search needs)) in
     λ i. record { ok = a .ok; filters = a .fs; lines = lines i; passes = c .move-passes .ensures i }
 
 pub moved-on-spec : {M : Type 1} → statement M

@@ -13,24 +13,24 @@ use Rattle.frame.proofs.wall_close.Statement.{statement}
 use Rattle.frame.proofs.wall_close.Tie as tie
 
 finish-frame-requires : tie.Need-finish-frame-requires
-finish-frame-requires c κs = let p = c .before .before .before .before .before .before .pre in settle-fits _ _ _ _ (wall .passes) _ _ _ _ (p .fits) refl (p .out)
+finish-frame-requires c κs = let p = c .before .before .before .before .before .before .before .before .pre in settle-fits _ _ _ _ (wall .passes) _ _ _ _ (p .fits) refl (p .out)
 
 moved-on-requires : tie.Need-moved-on-requires
-moved-on-requires c κs = let p = c .before .before .before .before .before .before .before .before .before .before .before .before .before .pre in (p .short, p .lines, p .passes)
+moved-on-requires c κs = let p = c .before .before .before .before .before .before .before .before .before .before .before .before .before .before .before .pre in (p .short, p .lines, p .passes)
 
 returns : tie.Need-returns
 unfolding leftBy rowsOf
 returns c =
     let done = c .before .before .before .before .before .before .before in
-    let a = done .before .before .before .before .before .before .before .args in
+    let a = done .before .before .before .before .before .before .before .before .before .args in
     let g = done .finish-frame .ensures in
     let w = now (a .work) in
     let r : Rows = rowsOf wall (a .f) w in
     let ok = judged-rows (a .f) w (a .fs) in (
       c .moved-on .ensures
-          ∙ (λ i. record { ok = (g .0 ∙ ok) i; filters = a .fs; lines = allMoved (a .f) (a .ls) (a .cs); passes = allMoved (a .f) (wall .passes) (a .qs) }),
+          ∙ (λ i. record { ok = (g .0 ∙ ok) i; filters = a .fs; lines = allMoved (a .f) (a .rings .lengths) (a .rings .lines); passes = allMoved (a .f) (wall .passes) (a .rings .passes) }),
       (
-        g .1 .0 ∙ ap (λ (b : Bool). cond b (putRows (a .f) 16 0 (a .ls) (a .cs) (r .mixed) (r .rings) (now (a .store))) (now (a .store))) ok,
+        g .1 .0 ∙ ap (λ (b : Bool). cond b (putRows (a .f) 16 0 (a .rings .lengths) (a .rings .lines) (r .mixed) (r .rings) (now (a .store))) (now (a .store))) ok,
         (g .1 .1 .0, g .1 .1 .1 ∙ ap (λ (b : Bool). cond b (r .output) (now (a .output))) ok),
       ),
     )

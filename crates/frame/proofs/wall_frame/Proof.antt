@@ -27,13 +27,13 @@ returns c =
     let s = ran .before .before .before .before .before .before .before in
     let a = s .args in
     let g = ran .judge-frame .ensures in
-    let q = frame-wall (a .f) (a .tail) (a .ls) (a .cs) (a .qs) (a .fs) (take (a .f) (now (a .work))) (now (a .store)) (s .pre .every) in
+    let q = frame-wall (a .f) (a .tail) (a .rings .lengths) (a .rings .lines) (a .rings .passes) (a .fs) (take (a .f) (now (a .work))) (now (a .store)) (s .pre .every) in
     let ok = ap (λ (r : Judged). r .ok) (g .0) ∙ ap frameFinite q in
     let filters = ap (λ (r : Judged). r .filters) (g .0) ∙ ap newFilters q in (
       c .moved-on .ensures
-          ∙ (λ i. record { ok = ok i; filters = filters i; lines = allMoved (a .f) (a .ls) (a .cs); passes = allMoved (a .f) (wall .passes) (a .qs) }),
+          ∙ (λ i. record { ok = ok i; filters = filters i; lines = allMoved (a .f) (a .rings .lengths) (a .rings .lines); passes = allMoved (a .f) (wall .passes) (a .rings .passes) }),
       (
-        g .1 .0 ∙ ap (λ (r : Frame). judgedStore 16 (a .f) (a .ls) (a .cs) r (now (a .store))) q,
+        g .1 .0 ∙ ap (λ (r : Frame). judgedStore 16 (a .f) (a .rings .lengths) (a .rings .lines) r (now (a .store))) q,
         (g .1 .1 .0, g .1 .1 .1 ∙ ap (λ (r : Frame). judgedOut r (now (a .output))) q),
       ),
     )
