@@ -41,7 +41,7 @@ call-stays : (m : Model) (w : Memory) (c : Call) → refusal (answer m w c) ≡ 
 call-stays m w c e = ap (λ (x : Ending). x .memory) (refusal-changes-nothing m w c e)
 
 -- what was lent and is left as it was
-left-same : (s : Slice) (mine : List Float) {new : List Float} → new ≡ lent s mine → left s new mine ≡ mine
+pub left-same : (s : Slice) (mine : List Float) {new : List Float} → new ≡ lent s mine → left s new mine ≡ mine
 left-same own mine e = e
 left-same (other xs) mine e = refl
 

@@ -15,15 +15,16 @@ use Rattle.machine.specs.Ending.{Memory, Ending}
 use Rattle.machine.specs.Whole.{Play}
 use Rattle.machine.specs.Jobs.{Job, unitShut}
 use Rattle.machine.specs.Calls.{reset, start, job, close, abandon, ending, answer, after}
-use Rattle.machine.specs.Requests.{Slice, Request, ask, seen, answerOf, refusal, request, requests}
+use Rattle.machine.specs.Requests.{Slice, Request, ask, seen, back, answerOf, refusal, request, requests}
 use Rattle.demands.specs.AnyOrder.{Begins, worked}
 use Rattle.demands.specs.LineLaw.{by-reset}
 use Rattle.demands.specs.Refusals.{givenBack}
 use Rattle.demands.specs.FromFresh.{Built, Reached, FromFresh, from-fresh, AnyOrderFromFresh, CloseFromFresh, LineLawFromFresh}
-use Rattle.demands.specs.FromFresh.{AnyJob, any-job, Worked, FrameGivenUp}
+use Rattle.demands.specs.FromFresh.{AnyJob, any-job, Worked, opened, GivesUp, FrameGivenUp, FrameGivenUpFromFresh}
 use Rattle.demands.proofs.Refused.{failure-gives-back, abandon-gives-back}
+use Rattle.demands.proofs.AnyOrderBlank.{idle}
 use Rattle.demands.proofs.AnyOrderOpen.{opened-told}
-use Rattle.demands.proofs.AnyOrderRequests.{stays}
+use Rattle.demands.proofs.AnyOrderRequests.{stays, left-same}
 use Rattle.demands.proofs.AnyOrder.{any-order, close-refuses-exactly}
 use Rattle.demands.proofs.LineLaw.{line-law}
 use Rattle.demands.proofs.Together.{cursors-together}
@@ -51,50 +52,65 @@ line-law-from-fresh v (from-fresh w rate frame e es) q i h rs plays =
 
 -- ---- a frame given up
 
--- v has a frame open that was opened on u
-record Open (u v : UnitState) : Type 0 where
-  settings : v .settings ≡ u .settings
-  cursors : v .cursors ≡ u .cursors
-  count : v .count ≡ u .count
-  before : v .held .before ≡ u .filters
-  busy : v .held .busy ≡ true
+-- v has a frame open that was opened on w, and the store that it had
+record Open (w v : Memory) : Type 0 where
+  settings : v .unit .settings ≡ w .unit .settings
+  cursors : v .unit .cursors ≡ w .unit .cursors
+  count : v .unit .count ≡ w .unit .count
+  before : v .unit .held .before ≡ w .unit .filters
+  busy : v .unit .held .busy ≡ true
+  store : v .store ≡ w .store
 
-module _ (m : Model) (u : UnitState) where
-  abbrev OpenIn : Memory → Type 0
-  OpenIn w = Open u (w .unit)
+module _ (m : Model) (w : Memory) where
+  job-open : (v : Memory) (j : Job) (s k : Slice) → Open w v → Open w (request m v (ask (job j) s k))
+  unfolding ending request
+  job-open v j s k h =
+      accept-either (λ (x : Memory). Open w (back v s k x)) (answer m (seen v s k) (job j))
+      (λ e. record {
+        settings = h .settings;
+        cursors = h .cursors;
+        count = h .count;
+        before = h .before;
+        busy = h .busy;
+        store = left-same s (v .store) refl ∙ h .store;
+      })
+      (λ n. record {
+        settings = h .settings;
+        cursors = h .cursors;
+        count = h .count;
+        before = h .before;
+        busy = h .busy;
+        store = left-same s (v .store) refl ∙ h .store;
+      })
 
-  job-open : (w : Memory) (j : Job) → OpenIn w → OpenIn (after m w (job j))
-  unfolding ending
-  job-open w j h =
-      accept-either OpenIn (answer m w (job j))
-      (λ e. record { settings = h .settings; cursors = h .cursors; count = h .count; before = h .before; busy = h .busy }) (λ n. h)
-
-  jobs-open : (w : Memory) (rs : List Request) → Worked m w rs → OpenIn w → OpenIn (requests m w rs)
-  unfolding Worked requests request
-  jobs-open w [] b h = h
-  jobs-open w (r ∷ rs) b h = jobs-open (request m w r) rs (b .1) (one r (b .0))
+  jobs-open : (v : Memory) (rs : List Request) → Worked m v rs → Open w v → Open w (requests m v rs)
+  unfolding Worked requests
+  jobs-open v [] b h = h
+  jobs-open v (r ∷ rs) b h = jobs-open (request m v r) rs (b .1) (one r (b .0))
     where
-      one : (r : Request) → AnyJob r ⊎ (refusal (answerOf m w r) ≡ true) → OpenIn (request m w r)
-      one r (inl (any-job j s k)) = job-open (seen w s k) j h
-      one r (inr e) = rw (stays m w r e) h
+      one : (r : Request) → AnyJob r ⊎ (refusal (answerOf m v r) ≡ true) → Open w (request m v r)
+      one r (inl (any-job j s k)) = job-open v j s k h
+      one r (inr e) = rw (stays m v r e) h
 
-  -- shut, it is u, where nothing was held
-  shut-back : (v : UnitState) → u .held ≡ noFrame m → Open u v → unitShut m v ≡ u
-  shut-back v q h = λ t. record { settings = h .settings t; cursors = h .cursors t; count = h .count t; filters = h .before t; held = sym q t }
-
-  -- and so is what a failed or abandoned frame gives back
-  given-back : (w : Memory) → u .held ≡ noFrame m → OpenIn w → givenBack m w .unit ≡ u
-  given-back w q h = rw (h .busy) (shut-back (w .unit) q h)
+  -- what a failed or abandoned frame gives back is w's unit, where nothing was held
+  given-back : (v : Memory) (s k : Slice) → w .unit .held ≡ noFrame m → Open w v → givenBack m (seen v s k) .unit ≡ w .unit
+  given-back v s k q h =
+      rw (h .busy) (λ t. record { settings = h .settings t; cursors = h .cursors t; count = h .count t; filters = h .before t; held = sym q t })
 
 pub frame-given-up : FrameGivenUp
-unfolding ending
-frame-given-up v h p rs e b s k =
-    let told = opened-told wall v p e in
-    let u = v .unit in
-    let none = reached v h .free (told .free) in
-    let first : OpenIn wall u (after wall v (start p)) = rw e record { settings = refl; cursors = refl; count = refl; before = refl; busy = refl } in
-    let open-still = jobs-open wall u (after wall v (start p)) rs b first in
-    let back = given-back wall u (seen (worked wall v p rs) s k) none open-still in (
-      λ a. ap (λ (w : Memory). w .unit) (abandon-gives-back wall (seen (worked wall v p rs) s k) a) ∙ back,
-      λ output a. ap (λ (x : Ending). x .memory .unit) (failure-gives-back wall (seen (worked wall v p rs) s k) (close output) a) ∙ back,
+unfolding ending answerOf request
+frame-given-up m w sized p s k e rs b =
+    let told = opened-told m (seen w s k) p e in
+    let none = idle m (w .unit) sized (told .range) (told .free) in
+    let first : Open w (opened m w p s k) = rw e record { settings = refl; cursors = refl; count = refl; before = refl; busy = refl; store = left-same s (w .store) refl } in
+    let v = requests m (opened m w p s k) rs in
+    let still = jobs-open m w (opened m w p s k) rs b first in (
+      λ s′ k′. record {
+        abandoned = λ a. ap (λ (x : Memory). x .unit) (abandon-gives-back m (seen v s′ k′) a) ∙ given-back m w v s′ k′ none still;
+        failed = λ output a. ap (λ (x : Ending). x .memory .unit) (failure-gives-back m (seen v s′ k′) (close output) a) ∙ given-back m w v s′ k′ none still;
+      },
+      still .store,
     )
+
+pub frame-given-up-from-fresh : FrameGivenUpFromFresh
+frame-given-up-from-fresh w h p s k e rs b = frame-given-up wall w (reached w h .sized) p s k e rs b

@@ -5,6 +5,7 @@ pub mod Refusals
 pub mod Examples
 pub mod Lent
 pub mod Refused
+pub mod TheCalls
 pub mod LineRings
 pub mod LineTurn
 pub mod AnyOrderRows

@@ -21,7 +21,7 @@ use Rattle.machine.specs.Ending.{Memory}
 use Rattle.machine.specs.Whole.{Play, atOnce}
 use Rattle.machine.specs.Jobs.{Job, closed}
 use Rattle.machine.specs.Calls.{reset, start, job, close, abandon, answer, after}
-use Rattle.machine.specs.Requests.{Slice, Request, ask, seen, answerOf, refusal, request}
+use Rattle.machine.specs.Requests.{Slice, Request, ask, seen, answerOf, refusal, request, requests}
 use Rattle.machine.specs.Runs.{Event, afresh, run}
 use Rattle.demands.specs.AnyOrder.{Between, worked, Exactly}
 use Rattle.demands.specs.LineLaw.{account, AllPlay}
@@ -77,11 +77,26 @@ unfoldable pub Worked : Model → Memory → List Request → Type 0
 Worked m w [] = Unit {0}
 Worked m w (r ∷ rs) = (AnyJob r ⊎ (refusal (answerOf m w r) ≡ true)) × Worked m (request m w r) rs
 
--- on any store, work memory and output, the abandon that is accepted and the close that is answered 9 leave the unit of before the open, bit for
+-- the unit w, whose lists are as long as a `State`'s, after a frame p is opened on any slices, and then such requests
+abbrev pub opened : Model → Memory → Play → Slice → Slice → Memory
+opened m w p s k = request m w (ask (start p) s k)
+
+-- v, which is lent any slices, gives up a frame of w: the abandon that is accepted and the close that is answered 9 leave the unit of w, bit for
 -- bit. The logic has one NaN: of a state whose filters hold one, up to which NaN it is
+pub record GivesUp (m : Model) (w v : Memory) : Type 0 where
+  pub abandoned : answer m v abandon ≡ Accepted → after m v abandon .unit ≡ w .unit
+  pub failed : (output : List Float) → answer m v (close output) ≡ NotFinite → after m v (close output) .unit ≡ w .unit
+
+-- and the unit's own store is still what it was
 abbrev pub FrameGivenUp : Type 0
 FrameGivenUp =
-    (v : Memory) → FromFresh v → (p : Play) (rs : List Request) → answer wall v (start p) ≡ Accepted → Worked wall (after wall v (start p)) rs
-    → (s k : Slice) → let x = seen (worked wall v p rs) s k in
-    (answer wall x abandon ≡ Accepted → after wall x abandon .unit ≡ v .unit)
-    × ((output : List Float) → answer wall x (close output) ≡ NotFinite → after wall x (close output) .unit ≡ v .unit)
+    (m : Model) (w : Memory) → Sized m (w .unit) → (p : Play) (s k : Slice) → answerOf m w (ask (start p) s k) ≡ Accepted
+    → (rs : List Request) → Worked m (opened m w p s k) rs → let v = requests m (opened m w p s k) rs in
+    ((s′ k′ : Slice) → GivesUp m w (seen v s′ k′)) × (v .store ≡ w .store)
+
+-- from an accepted fresh on, with no premise on lists
+abbrev pub FrameGivenUpFromFresh : Type 0
+FrameGivenUpFromFresh =
+    (w : Memory) → FromFresh w → (p : Play) (s k : Slice) → answerOf wall w (ask (start p) s k) ≡ Accepted
+    → (rs : List Request) → Worked wall (opened wall w p s k) rs → let v = requests wall (opened wall w p s k) rs in
+    ((s′ k′ : Slice) → GivesUp wall w (seen v s′ k′)) × (v .store ≡ w .store)

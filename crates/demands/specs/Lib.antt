@@ -5,3 +5,5 @@ pub mod AnyOrder
 pub mod Demands
 pub mod LineLaw
 pub mod FromFresh
+pub mod Contracts
+pub mod TheCalls
