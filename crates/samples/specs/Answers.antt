@@ -1,10 +1,10 @@
--- What a call answers: the numbers of document 01's table, and how a judgement is put together from tests.
+-- What a call answers: its number, and how a judgement is put together from tests (R2.1 to R2.19).
 use mathlib.Core.Bool.{Bool, true, false}
 use Prim.Native.Nat.{ℕ}
 use Rattle.samples.specs.declared.Answer.{Answer}
 use Rattle.samples.specs.declared.Answer.the-variants.{Accepted, BadState, BadSize, BadLength, BadIndex, OutOfTurn, BadTime, BadCoefficient, BadSample, NotFinite}
 
--- "Numbers a call may answer with": the table's first column
+-- R2.1, R2.10 to R2.19: the number of each answer
 abbrev pub numberOf : Answer → ℕ
 numberOf Accepted = 0
 numberOf BadState = 1
@@ -17,7 +17,7 @@ numberOf BadCoefficient = 7
 numberOf (BadSample i) = 8
 numberOf NotFinite = 9
 
--- "8 .. with the index of the first one"
+-- R2.9: the position that comes with 8, and 0 with any other
 abbrev pub indexOf : Answer → ℕ
 indexOf Accepted = 0
 indexOf BadState = 0
@@ -30,7 +30,7 @@ indexOf BadCoefficient = 0
 indexOf (BadSample i) = i
 indexOf NotFinite = 0
 
--- `new` where the call is accepted and `old` where it is refused: "A refusal changes nothing"
+-- `new` where the call is accepted and `old` where it is refused, as R8.4 asks
 abbrev pub accept : {A : Type 0} → Answer → A → A → A
 accept Accepted new old = new
 accept BadState new old = old
@@ -43,11 +43,11 @@ accept BadCoefficient new old = old
 accept (BadSample i) new old = old
 accept NotFinite new old = old
 
--- whether a call is accepted
+-- R2.10: whether a call is accepted
 abbrev pub accepted : Answer → Bool
 accepted a = accept a true false
 
--- the answer `bad` where a test fails, else what the later tests say. "The lowest number that applies is given": it stands outermost
+-- the answer `bad` where a test fails, else what the later tests say. R2.2: the least number stands outermost
 abbrev pub need : {A : Type 0} → Bool → A → A → A
 need true bad rest = rest
 need false bad rest = bad

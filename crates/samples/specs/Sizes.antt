@@ -3,11 +3,11 @@ use mathlib.Core.Bool.{Bool, _&&_}
 use Prim.Native.Nat.{ℕ, _%_}
 use lib.Dec.{leb, eqb}
 
--- "Rate 8,000 to 192,000."
+-- R1.1: the rate
 unfoldable pub rateOk : ℕ → Bool
 rateOk rate = leb 8000 rate && leb rate 192000
 
--- "Frame F: multiple of 4, 4 to 1,024."
+-- R1.2: F, the samples of a frame
 abbrev pub longestFrame : ℕ
 longestFrame = 1024
 

@@ -1,4 +1,4 @@
--- "To decide 8 and 9 the rows are searched in order and left at the first bad sample."
+-- R2.37: the search for the first sample that isn't finite.
 use mathlib.Core.Bool.{Bool, true, false, cond}
 use mathlib.Core.List.{List, [], _∷_}
 use Prim.Native.Nat.{ℕ, suc}
@@ -20,6 +20,6 @@ abbrev pub nothing : Found → Bool
 nothing (At k) = false
 nothing Nothing = true
 
--- no sample is bad
+-- R2.17, R4.14: no sample is bad
 abbrev pub allFinite : List Float → Bool
 allFinite xs = nothing (firstBad xs)
