@@ -1,4 +1,4 @@
--- The order of document 01, four by four through both stages, and ours, stage by stage over the whole row, give the same row and leave the
+-- R3.36: the order four by four through both stages, and ours, stage by stage over the whole row, give the same row and leave the
 -- same stages. By induction on the number of fours. Assumes nothing.
 use Prim.Native.Nat.{zero, suc}
 use mathlib.Core.Path.{refl, ap}

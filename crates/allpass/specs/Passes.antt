@@ -1,4 +1,4 @@
--- The allpasses of step 5: "Then per four samples, stage 0 then 1: take xm, ym; y = (xm + 0.25·ym) - 0.25·x; put x, put y; go on with y."
+-- The allpass: one step, a stage's turn of four samples, and a stage over a row (R3.32 to R3.35).
 use Prim.Native.Nat.{ℕ, zero, suc}
 use mathlib.Core.List.{List, [], _++_}
 use lib.Ieee.{Float, binary32, ofBits}
@@ -13,7 +13,7 @@ use Rattle.delay.specs.Calls.{get4Answer, put4Answer, put4Ring}
 abbrev pub gain : Float
 gain = ofBits binary32 0x3e80_0000
 
--- "y = (xm + 0.25·ym) - 0.25·x"
+-- R3.32: one step
 unfoldable pub allpass : Float → Float → Float → Float
 allpass x xm ym = (xm ⊕ gain ⊗ ym) ⊖ gain ⊗ x
 
@@ -22,18 +22,18 @@ abbrev pub allpass4 : Four → Four → Four → Four
 allpass4 x xm ym =
     record { 0 = allpass (x .0) (xm .0) (ym .0); 1 = allpass (x .1) (xm .1) (ym .1); 2 = allpass (x .2) (xm .2) (ym .2); 3 = allpass (x .3) (xm .3) (ym .3) }
 
--- a stage is an x ring and a y ring, each with its cursors
+-- R1.12, R3.34: a stage is an x ring and a y ring, each with its cursors
 pub record Stage : Type 0 where
   pub x : List Float
   pub xs : Cursors
   pub y : List Float
   pub ys : Cursors
 
--- "take xm, ym": what goes on of the four samples x
+-- R3.33: what goes on of the four samples x
 abbrev pub stageOut : Stage → Four → Four
 stageOut s x = allpass4 x (get4Answer (s .x) (s .xs) .x) (get4Answer (s .y) (s .ys) .x)
 
--- "put x, put y": the stage after them
+-- R3.33: the stage after them, x put into the one ring and what goes on into the other
 abbrev pub stageEnd : Stage → Four → Stage
 stageEnd s x =
     let cx = get4Answer (s .x) (s .xs) .cursors in
@@ -45,7 +45,7 @@ stageEnd s x =
       ys = put4Answer (length (s .y)) cy .cursors;
     }
 
--- a stage over n fours of a row, and the stage after them
+-- R3.35: a stage over n fours of a row, and the stage after them
 unfoldable pub passOut : ℕ → Stage → List Float → List Float
 passOut zero s row = []
 passOut (suc n) s row = listOf (stageOut s (fourOf row)) ++ passOut n (stageEnd s (fourOf row)) (drop 4 row)

@@ -1,4 +1,4 @@
--- One allpass stage that lies in a lent stretch w with the row that it goes over, and the order in which document 01 has the two stages.
+-- One allpass stage that lies in a lent stretch w with the row that it goes over, and the two stages four by four.
 use Prim.Native.Nat.{ℕ, zero, suc, _+_, _/_}
 use mathlib.Core.Path.{_≡_}
 use mathlib.Core.Bool.{Bool, _&&_, cond}
@@ -40,11 +40,11 @@ passed n t at lx ly cx cy w =
 unfoldable pub partsFit : ℕ → ℕ → ℕ → ℕ → ℕ → Bool
 partsFit f at lx ly l = leb f at && leb (at + (lx + ly)) l
 
--- the row is the first f samples of w: the stage goes over as many fours as are whole in it. Where the parts don't fit nothing changes
+-- the row is the first f samples of w: the stage goes over as many fours as are whole in it. R3.37: where the parts don't fit nothing changes
 unfoldable pub staged : ℕ → ℕ → ℕ → ℕ → Cursors → Cursors → List Float → List Float
 staged f at lx ly cx cy w = cond (partsFit f at lx ly (length w)) (passed (f / 4) 0 at lx ly cx cy w) w
 
--- ---- "per four samples, stage 0 then 1: .. go on with y": each four goes through both stages before the next one comes
+-- ---- R3.36: each four goes through both stages before the next one comes
 
 unfoldable pub bothOut : ℕ → Stage → Stage → List Float → List Float
 bothOut zero s0 s1 row = []
@@ -63,7 +63,7 @@ bothEnd (suc n) s0 s1 row =
     let x = fourOf row in
     bothEnd n (stageEnd s0 x) (stageEnd s1 (stageOut s0 x)) (drop 4 row)
 
--- the row and both stages are those of stage 0 over the whole row, and then stage 1 over what that gives: the stages share no ring
+-- R3.36: the row and both stages are those of stage 0 over the whole row, and then stage 1 over what that gives. The stages share no ring
 abbrev pub ByFours : Type 0
 ByFours =
     (n : ℕ) (s0 s1 : Stage) (row : List Float)

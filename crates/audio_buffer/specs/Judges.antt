@@ -1,4 +1,4 @@
--- What the buffer helpers refuse.
+-- What the buffer helpers refuse (R7.10 to R7.13).
 use mathlib.Core.Bool.{Bool, _&&_}
 use Prim.Native.Nat.{ℕ, _*_}
 use lib.Dec.{leb, ltb, eqb}
@@ -6,15 +6,15 @@ use Rattle.samples.specs.declared.Answer.{Answer}
 use Rattle.samples.specs.declared.Answer.the-variants.{Accepted, BadLength, BadIndex}
 use Rattle.samples.specs.Answers.{need}
 
--- "Buffer helpers: 1 to 16 channels, 0 to 65,536 samples each."
+-- R1.5: how many channels, and how many samples in each
 unfoldable pub channelsOk : ℕ → Bool
 channelsOk channels = leb 1 channels && leb channels 16
 
 abbrev pub samplesOk : ℕ → Bool
 samplesOk samples = leb samples 65536
 
--- a slice that is to hold so many channels, before what `rest` judges: "4: channels 0 or above 16, too many samples", "3: a lent slice
--- hasn't its exact length", and "A length that depends on a count refused with 4 isn't judged"
+-- R7.10, R7.11: a slice that is to hold so many channels, before what `rest` judges. 4 for the counts comes before 3 for the length, which
+-- is no number where a count is bad (R2.5)
 unfoldable pub judgedThen : ℕ → ℕ → ℕ → Answer → Answer
 judgedThen channels samples len rest =
     need (channelsOk channels && samplesOk samples) BadIndex (need (eqb len (channels * samples)) BadLength rest)
@@ -23,6 +23,6 @@ judgedThen channels samples len rest =
 abbrev pub judgedTwo : ℕ → ℕ → ℕ → ℕ → Answer
 judgedTwo channels samples len other = judgedThen channels samples len (judgedThen channels samples other Accepted)
 
--- "4: channel not below the count"
+-- R7.13: the channel, 4 after 3
 abbrev pub judgedChannel : ℕ → ℕ → ℕ → ℕ → Answer
 judgedChannel channels samples channel len = judgedThen channels samples len (need (ltb channel channels) BadIndex Accepted)

@@ -1,4 +1,4 @@
--- How the channels of a buffer lie in a slice. "A buffer is one slice, channel after channel"; interleaved it is frame after frame, a
+-- R7.1: how the channels of a buffer lie in a slice. One lies behind the other; interleaved it is frame after frame, a
 -- frame being one sample of each channel. Either way it is rows of equal length, and the columns of the one are the rows of the other.
 use mathlib.Core.List.{List, [], _∷_, _++_}
 use Prim.Native.Nat.{ℕ, zero, suc}
@@ -15,10 +15,10 @@ abbrev pub columns : ℕ → ℕ → ℕ → List Float → List Float
 columns row n zero xs = []
 columns row n (suc k) xs = column row n xs ++ columns row n k (drop 1 xs)
 
--- "Interleave": as many frames as there are samples in a channel
+-- R7.2: interleave. There are as many frames as samples in a channel
 abbrev pub interleaved : ℕ → ℕ → List Float → List Float
 interleaved channels samples buffer = columns samples channels samples buffer
 
--- "deinterleave": as many channels as there are samples in a frame
+-- R7.3: deinterleave. There are as many channels as samples in a frame
 abbrev pub deinterleaved : ℕ → ℕ → List Float → List Float
 deinterleaved channels samples source = columns channels samples channels source

@@ -4,7 +4,7 @@ use lib.IntN.{ℤ, pos, negsuc}
 use Rattle.audio_buffer.specs.declared.AudioEffectState.{AudioEffectState}
 use Rattle.audio_buffer.specs.declared.AudioEffectState.the-variants.{TailRemaining, TailComplete}
 
--- "Verdict: TailRemaining exactly if above 0."
+-- R4.22: the verdict of a count
 abbrev pub verdictOf : ℤ → AudioEffectState
 verdictOf (pos (suc n)) = TailRemaining
 verdictOf (pos zero) = TailComplete

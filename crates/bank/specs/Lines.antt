@@ -11,7 +11,7 @@ use Rattle.lanes.specs.declared.bank.FourBands.{FourBands}
 abbrev pub lines : FourBands → List Bands
 lines b = b .b0 ∷ b .b1 ∷ b .b2 ∷ b .b3 ∷ []
 
--- "Each line i: band filters 0, 1, 2 over the frame": rows of f samples, and what lies after them as it was
+-- R4.7: each row of f samples through the bands of its line, and what lies after them as it was
 unfoldable pub linesOut : ℕ → List Bands → List Float → List Float
 linesOut f [] rows = rows
 linesOut f (b ∷ bs) rows = bandsOut b (take f rows) ++ linesOut f bs (drop f rows)

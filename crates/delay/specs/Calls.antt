@@ -17,23 +17,23 @@ use Rattle.delay.specs.Ring.{wrap, read, write, ahead, readEach, writeEa
 
 -- ---- what is judged
 
--- "A ring alone: length 1 to 65,536."
+-- R1.4: the length of a ring on its own
 unfoldable pub lengthOk : ℕ → Bool
 lengthOk l = leb 1 l && leb l 65536
 
--- "every cursor is below its ring's length": both, whichever of them the call moves
+-- R3.14: both cursors are within the ring, whichever of them the call moves
 unfoldable pub cursorsOk : ℕ → Cursors → Bool
 cursorsOk l c = ltb (c .read .0) l && ltb (c .write .0) l
 
--- "ring n of 0 or above L" is refused
+-- R3.15: how many samples a get or put may move
 unfoldable pub countOk : ℕ → ℕ → Bool
 countOk l n = leb 1 n && leb n l
 
--- "a ring alone of length 0 or above 65,536 is answered 3, its cursors unjudged"
+-- R3.13: 3 for the length
 abbrev pub judgedLength : ℕ → Answer
 judgedLength l = need (lengthOk l) BadLength Accepted
 
--- length, then cursors, then the rest
+-- R2.6, R3.13, R3.14: the length, then the cursors, then the rest
 abbrev pub judgedThen : ℕ → Cursors → Answer → Answer
 judgedThen l c rest = need (lengthOk l) BadLength (need (cursorsOk l c) BadState rest)
 
@@ -41,7 +41,7 @@ judgedThen l c rest = need (lengthOk l) BadLength (need (cursorsOk l c) BadState
 abbrev pub judgedRing : ℕ → Cursors → Answer
 judgedRing l c = judgedThen l c Accepted
 
--- a call with cursors that moves n samples
+-- R3.15: a call with cursors that moves n samples
 abbrev pub judgedCount : ℕ → Cursors → ℕ → Answer
 judgedCount l c n = judgedThen l c (need (countOk l n) BadIndex Accepted)
 
@@ -57,35 +57,35 @@ readTo c k = record { read = record { 0 = k }; write = c .write }
 abbrev pub writeTo : Cursors → ℕ → Cursors
 writeTo c k = record { read = c .read; write = record { 0 = k } }
 
--- the cursors `new` where the call is accepted, and those given where it is refused
+-- R3.16: the cursors `new` where the call is accepted, and those given where it is refused
 abbrev pub answered : Answer → Cursors → Cursors → RingAnswer
 answered a new old = record { answer = a; cursors = accept a new old }
 
--- ---- fresh and reset: the ring is all +0
+-- ---- R3.17, R3.18: fresh and reset, after which the ring is all +0
 
 abbrev pub silent : Answer → List Float → List Float
 silent a ring = accept a (replicate (length ring) +0) ring
 
--- both cursors begin at 0, and are so where the length is refused
+-- R3.17: both cursors begin at 0, and are so where the length is refused
 abbrev pub freshAnswer : ℕ → RingAnswer
 freshAnswer l = record { answer = judgedLength l; cursors = both 0 }
 
 abbrev pub freshRing : List Float → List Float
 freshRing ring = silent (judgedLength (length ring)) ring
 
--- "Reset: all rings +0 .. cursors .. stay as they are."
+-- R3.18: a reset leaves the cursors
 abbrev pub resetAnswer : ℕ → Cursors → RingAnswer
 resetAnswer l c = record { answer = judgedRing l c; cursors = c }
 
 abbrev pub resetRing : List Float → Cursors → List Float
 resetRing ring c = silent (judgedRing (length ring) c) ring
 
--- ---- "`get` of n copies n samples and advances; `put` likewise." Get goes by the read cursor and put by the write cursor, equal or not.
+-- ---- R3.8, R3.9: get goes by the read cursor and put by the write cursor, equal or not.
 
 abbrev pub getAnswer : ℕ → Cursors → ℕ → RingAnswer
 getAnswer l c n = answered (judgedCount l c n) (readTo c (wrap l (c .read .0 + n))) c
 
--- n is the length of the slice lent
+-- R3.10: n is the length of the slice lent
 abbrev pub getOut : List Float → Cursors → List Float → List Float
 getOut ring c out = accept (judgedCount (length ring) c (length out)) (read ring (c .read .0) (length out)) out
 
@@ -95,9 +95,9 @@ putAnswer l c n = answered (judgedCount l c n) (writeTo c (wrap l (c .write .0 +
 abbrev pub putRing : List Float → Cursors → List Float → List Float
 putRing ring c xs = accept (judgedCount (length ring) c (length xs)) (write ring (c .write .0) xs) ring
 
--- ---- "`get4` and `put4` move four samples, on any L of 1 or more."
+-- ---- R3.11, R3.12: get4 and put4, on a ring of any length
 
--- "A refused call that would give numbers gives 0"
+-- R2.36, R3.16: what a refused get4 hands out
 abbrev pub zeros : Four
 zeros = record { 0 = +0; 1 = +0; 2 = +0; 3 = +0 }
 

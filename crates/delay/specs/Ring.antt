@@ -1,4 +1,4 @@
--- "Rings have length L and two cursors." A ring is its view from a cursor: reading takes from the view's front, writing puts back there.
+-- R3.6: a ring is its view from a cursor. Reading takes from the view's front, writing puts back there.
 use mathlib.Core.Bool.{cond}
 use mathlib.Core.List.{List, [], _∷_, _++_}
 use Prim.Native.Nat.{ℕ, zero, suc, _+_, _-_}
@@ -11,21 +11,21 @@ use Rattle.delay.specs.declared.Four.{Four}
 unfoldable pub rotl : {A : Type 0} → ℕ → List A → List A
 rotl k xs = drop k xs ++ take k xs
 
--- a position m that has run past the end at most once: "The port's cursor stays below L"
+-- R3.7: a position m that has run past the end at most once
 unfoldable pub wrap : ℕ → ℕ → ℕ
 wrap l m = cond (ltb m l) m (m - l)
 
--- n samples from position k on: the front of the view
+-- R3.8: n samples from position k on, the front of the view
 unfoldable pub read : {A : Type 0} → List A → ℕ → ℕ → List A
 read ring k n = take n (rotl k ring)
 
--- the ring with xs from position k on: they take the front of the view, which is then turned back
+-- R3.9: the ring with xs from position k on. They take the front of the view, which is then turned back
 unfoldable pub write : {A : Type 0} → List A → ℕ → List A → List A
 write ring k xs = rotl (length ring - k) (xs ++ drop (length xs) (rotl k ring))
 
--- ---- one sample after the other, each with the wrap test: "`get4` and `put4` move four samples, on any L of 1 or more"
+-- ---- R3.11, R3.12: one sample after the other, each with the wrap test
 
--- the position n samples on from k
+-- R3.7: the position n samples on from k
 unfoldable pub ahead : ℕ → ℕ → ℕ → ℕ
 ahead l zero k = k
 ahead l (suc n) k = ahead l n (wrap l (k + 1))
@@ -40,7 +40,7 @@ unfoldable pub writeEach : List Float → ℕ → List Float → List Float
 writeEach ring k [] = ring
 writeEach ring k (x ∷ xs) = writeEach (set ring k x) (wrap (length ring) (k + 1)) xs
 
--- "`f32x4` four floats by value": as a list, and made of one
+-- four samples by value: as a list, and made of one
 abbrev pub listOf : Four → List Float
 listOf x = x .0 ∷ x .1 ∷ x .2 ∷ x .3 ∷ []
 

@@ -1,4 +1,4 @@
--- The ring's laws: what holds of every ring alone, whatever its length and however it is used.
+-- The ring's laws: what holds of every ring alone, whatever its length and however it is used (R3.19, R3.20, R8.30).
 use mathlib.Core.Path.{_≡_}
 use mathlib.Core.Bool.{cond}
 use mathlib.Core.List.{List, [], _∷_, _++_, flatten, map}
@@ -13,11 +13,11 @@ use Rattle.delay.specs.Calls.{freshAnswer, freshRing, resetAnswer, reset
 
 -- ---- cursors
 
--- "every cursor is below its ring's length"
+-- both cursors are within a ring of length l
 abbrev pub Below : ℕ → Cursors → Type 0
 Below l c = (c .read .0 < l) × (c .write .0 < l)
 
--- "The port's cursor stays below L": both are, after any call that is accepted
+-- R3.20: both are, after any call that is accepted
 pub record CursorBelow : Type 0 where
   pub fresh : (l : ℕ) → freshAnswer l .answer ≡ Accepted → Below l (freshAnswer l .cursors)
   pub reset : (l : ℕ) (c : Cursors) → resetAnswer l c .answer ≡ Accepted → Below l (resetAnswer l c .cursors)
@@ -26,23 +26,23 @@ pub record CursorBelow : Type 0 where
   pub get4 : (ring : List Float) (c : Cursors) → get4Answer ring c .answer ≡ Accepted → Below (length ring) (get4Answer ring c .cursors)
   pub put4 : (l : ℕ) (c : Cursors) → put4Answer l c .answer ≡ Accepted → Below l (put4Answer l c .cursors)
 
--- "a reset with both cursors equal"
+-- the two cursors are equal
 abbrev pub Equal : Cursors → Type 0
 Equal c = c .read ≡ c .write
 
--- cursors equal before a turn are equal after it, accepted or not
+-- R3.20: cursors equal before a turn are equal after it, accepted or not
 pub record CursorsTogether : Type 0 where
   pub turn : (l : ℕ) (c : Cursors) (n : ℕ) → Equal c → Equal (putAnswer l (getAnswer l c n .cursors) n .cursors)
   pub turn4 : (ring : List Float) (c : Cursors) → Equal c → Equal (put4Answer (length ring) (get4Answer ring c .cursors) .cursors)
 
 -- ---- turns
 
--- a turn, "each n-sample get before an n-sample put": the slice lent to get, whatever it holds, and the samples put
+-- a turn, a get and a put of the same n: the slice lent to get, whatever it holds, and the samples put
 pub record Turn : Type 0 where
   pub lent : List Float
   pub put : List Float
 
--- "1 to L .. whatever the n": each turn has an n of its own
+-- each turn has an n of its own, from 1 to l
 abbrev pub Each : ℕ → List Turn → Type 0
 Each l [] = Unit {0}
 Each l (t ∷ ts) = (length (t .lent) ≡ length (t .put)) × (1 ≤ length (t .put)) × (length (t .put) ≤ l) × Each l ts
@@ -58,7 +58,7 @@ gets ring c (t ∷ ts) =
 abbrev pub given : List Turn → List Float
 given ts = flatten (map (λ t. t .put) ts)
 
--- "from fresh, or from a reset with both cursors equal": P holds of L, all samples put and all samples got
+-- from a fresh, or from a reset while the cursors are equal: P holds of L, all samples put and all samples got
 abbrev pub FromSilence : (ℕ → List Float → List Float → Type 0) → Type 0
 FromSilence P =
     (ring : List Float) (ts : List Turn) → 1 ≤ length ring → length ring ≤ 65536 → Each (length ring) ts
@@ -66,10 +66,10 @@ FromSilence P =
     × ((c : Cursors) → Equal c → Below (length ring) c
     → P (length ring) (given ts) (flatten (gets (resetRing ring c) (resetAnswer (length ring) c .cursors) ts)))
 
--- all that is got is the front of L times +0 followed by all that is put
+-- R3.19: all that is got is the front of L times +0 followed by all that is put
 abbrev pub RingLaw : Type 0
 RingLaw = FromSilence (λ l puts got. got ≡ take (length puts) (replicate l +0 ++ puts))
 
--- "sample t read is put t-L, or +0 if t < L"
+-- R3.19: the same of each sample got
 abbrev pub RingSample : Type 0
 RingSample = FromSilence (λ l puts got. (t : ℕ) → t < length puts → getD got t nan ≡ cond (ltb t l) +0 (getD puts (t - l) nan))

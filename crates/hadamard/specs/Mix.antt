@@ -1,5 +1,4 @@
--- The mix of one sample of each line: "y[r] sums x[0] to x[15] left to right, column c with a minus when r AND c has an odd count of ones,
--- then times 0.25." Here of n lines, and times k.
+-- The mix of one sample of each line (R3.26 to R3.29), here of n lines, and times k.
 use mathlib.Core.Bool.{Bool, cond, _&&_}
 use mathlib.Core.List.{List, [], _∷_, _++_}
 use Prim.Native.Nat.{ℕ, zero, suc, _%_}
@@ -12,7 +11,7 @@ use Rattle.samples.specs.Answers.{need}
 use Rattle.samples.specs.declared.Answer.{Answer}
 use Rattle.samples.specs.declared.Answer.the-variants.{Accepted, BadLength}
 
--- "column c with a minus when r AND c has an odd count of ones"
+-- R3.26: the sign of row r and column c
 unfoldable pub minus : ℕ → ℕ → Bool
 minus r c = eqb (ones (bitAnd r c) % 2) 1
 
@@ -20,17 +19,17 @@ minus r c = eqb (ones (bitAnd r c) % 2) 1
 abbrev pub plusMinus : Bool → Float → Float → Float
 plusMinus m sum x = cond m (sum ⊖ x) (sum ⊕ x)
 
--- "left to right": the columns from c on, onto the sum of those before them
+-- R3.27: the columns from c on, onto the sum of those before them
 abbrev pub sumFrom : ℕ → ℕ → Float → List Float → Float
 sumFrom r c sum [] = sum
 sumFrom r c sum (x ∷ xs) = sumFrom r (suc c) (plusMinus (minus r c) sum x) xs
 
--- "sums x[0] to x[15]": it begins with x[0] itself, which no row takes with a minus, and not with +0, to which -0 adds as +0
+-- R3.27: the sum begins with x[0] itself, which no row takes with a minus, and not with +0, to which -0 adds as +0
 abbrev pub sumOf : ℕ → List Float → Float
 sumOf r [] = +0
 sumOf r (x ∷ xs) = sumFrom r 1 x xs
 
--- y[r]: the sum, "then times 0.25"
+-- R3.28: y[r], the sum and then the factor
 unfoldable pub mixAt : Float → ℕ → List Float → Float
 mixAt k r xs = sumOf r xs ⊗ k
 
@@ -50,6 +49,6 @@ mixed n k xs = each n (λ r. mixAt k r xs)
 abbrev pub quarter : Float
 quarter = ofBits binary32 0x3e80_0000
 
--- "a lent slice hasn't its exact length": 16, of both
+-- R3.29: 16 floats in both
 unfoldable pub judgedSample : ℕ → ℕ → Answer
 judgedSample x y = need (eqb x 16 && eqb y 16) BadLength Accepted

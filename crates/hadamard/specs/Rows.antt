@@ -14,7 +14,7 @@ abbrev pub column : ℕ → ℕ → ℕ → List Float → List Float
 column zero f t rows = []
 column (suc n) f t rows = getD rows t nan ∷ column n f t (drop f rows)
 
--- "Mix sample by sample": sample t of mixed row r is y[r] of the samples t that were read
+-- R3.30: sample t of mixed row r is y[r] of the samples t that were read
 unfoldable pub mixedRow : ℕ → ℕ → Float → List Float → ℕ → List Float
 mixedRow n f k reads r = each f (λ t. mixAt k r (column n f t reads))
 
@@ -22,11 +22,11 @@ mixedRow n f k reads r = each f (λ t. mixAt k r (column n f t reads))
 unfoldable pub mixedRows : ℕ → ℕ → Float → List Float → List Float
 mixedRows n f k reads = joined n (mixedRow n f k reads)
 
--- "a lent slice hasn't its exact length": a multiple of 2 n, which with no lines is 0 alone
+-- R3.31: a multiple of 2 n, which with no lines is 0 alone
 unfoldable pub judgedRows : ℕ → ℕ → Answer
 judgedRows n len = need (eqb (len % (2 * n)) 0) BadLength Accepted
 
--- the rows that were read as they were, and the mixed rows of them
+-- R3.31: the rows that were read as they were, and the mixed rows of them
 unfoldable pub rowsMixed : ℕ → Float → List Float → List Float
 rowsMixed n k rows =
     let f = length rows / (2 * n) in

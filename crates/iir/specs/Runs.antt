@@ -5,7 +5,7 @@ use Rattle.iir.specs.declared.Filter.{Filter}
 use Rattle.iir.specs.declared.Bands.{Bands}
 use Rattle.iir.specs.Step.{outOf, step}
 
--- what comes out of a run over the samples, and the filter after it
+-- R3.24: what comes out of a run over the samples, and the filter after it
 abbrev pub runOut : Filter → List Float → List Float
 runOut f [] = []
 runOut f (x ∷ xs) = outOf f x ∷ runOut (step f x) xs
@@ -14,7 +14,7 @@ abbrev pub runEnd : Filter → List Float → Filter
 runEnd f [] = f
 runEnd f (x ∷ xs) = runEnd (step f x) xs
 
--- "band filters 0, 1, 2 over the frame": three runs, each over what came out of the one before
+-- R3.25: three bands in a row, each over what came out of the one before
 unfoldable pub bandsOut : Bands → List Float → List Float
 bandsOut b xs = runOut (b .f2) (runOut (b .f1) (runOut (b .f0) xs))
 

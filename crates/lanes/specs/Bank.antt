@@ -19,7 +19,7 @@ bankOf b =
 abbrev pub bandsAt : ℕ → Bank → Bands
 bandsAt k g = record { f0 = lane k (g .l0); f1 = lane k (g .l1); f2 = lane k (g .l2) }
 
--- the bands after one sample of each line: what comes out of a band goes into the next
+-- R3.25: the bands after one sample of each line. What comes out of a band goes into the next
 unfoldable pub stepBank : Bank → Four → Bank
 stepBank g x =
     let l0 = stepAll (g .l0) x in

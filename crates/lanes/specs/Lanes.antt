@@ -36,7 +36,7 @@ lane k l =
       y2 = at k (l .y2);
     }
 
--- each line's filter after one sample
+-- R3.21, R3.22: each line's filter after one sample
 unfoldable pub stepAll : Lanes → Four → Lanes
 stepAll l x =
     let ins = each _⊕_ (each _⊕_ (each _⊗_ (l .b0) x) (each _⊗_ (l .b1) (l .x1))) (each _⊗_ (l .b2) (l .x2)) in

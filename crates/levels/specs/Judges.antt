@@ -6,11 +6,11 @@ use Rattle.samples.specs.declared.Answer.the-variants.{Accepted, BadLength, Bad
 use Rattle.samples.specs.Answers.{need}
 use Rattle.audio_buffer.specs.Judges.{samplesOk, judgedThen}
 
--- a call that is lent one buffer
+-- R7.10, R7.11: a call that is lent one buffer
 abbrev pub judged : ℕ → ℕ → ℕ → Answer
 judged channels samples len = judgedThen channels samples len Accepted
 
--- downmix: the output's length depends on the samples alone, so it is judged before the channels
+-- R7.12: downmix. The output's length goes by the samples alone, so it is judged before the channels
 unfoldable pub judgedDownmix : ℕ → ℕ → ℕ → ℕ → Answer
 judgedDownmix channels samples len output =
     need (samplesOk samples) BadIndex (need (eqb output samples) BadLength (judgedThen channels samples len Accepted))

@@ -6,14 +6,14 @@ use Prim.Native.Nat.{ℕ, zero, suc, _+_, _-_, _%_, _≤_, _<_}
 use lib.Dec.{eqb}
 use lib.ListN.{getD}
 
--- "primes 2 to 53"
+-- R6.7: the primes
 abbrev pub primes : List ℕ
 primes = 2 ∷ 3 ∷ 5 ∷ 7 ∷ 11 ∷ 13 ∷ 17 ∷ 19 ∷ 23 ∷ 29 ∷ 31 ∷ 37 ∷ 41 ∷ 43 ∷ 47 ∷ 53 ∷ []
 
 abbrev pub primeAt : ℕ → ℕ
 primeAt index = getD primes index 0
 
--- "D = 225, 341, 441, 556; line i has length D[i mod 4] + F."
+-- R1.9: the four delays, and R1.10: which of them is a line's
 abbrev pub delays : List ℕ
 delays = 225 ∷ 341 ∷ 441 ∷ 556 ∷ []
 
@@ -39,6 +39,6 @@ abbrev pub passing : ℕ → ℕ → List ℕ
 passing zero n = []
 passing (suc k) n = cond (passes n) (n ∷ passing k (suc n)) (passing k (suc n))
 
--- the table holds the primes up to 53, in order: the 52 numbers from 2 on that pass trial division. Each entry is a prime
+-- R6.7: the table holds the primes up to 53, in order, those of the 52 numbers from 2 on that pass trial division. Each entry is a prime
 abbrev pub TableIsPrimes : Type 0
 TableIsPrimes = (primes ≡ passing 52 2) × ((i : ℕ) → i < 16 → Prime (primeAt i))

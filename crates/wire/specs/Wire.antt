@@ -1,4 +1,4 @@
--- How floats lie in bytes: "little-endian binary32".
+-- R9.4: how floats lie in bytes, four each, the lowest byte first.
 use mathlib.Core.Bool.{cond}
 use mathlib.Core.List.{List, [], _∷_, _++_}
 use Prim.Native.Nat.{ℕ, zero, suc, _+_, _*_, _/_, _%_, min}
@@ -17,21 +17,21 @@ abbrev pub bytesOf : ℕ → ℕ → List ℕ
 bytesOf zero n = []
 bytesOf (suc k) n = n % 256 ∷ bytesOf k (n / 256)
 
--- the float of the first four bytes. "pads the last frame with +0, ignores 1 to 3 odd bytes": +0 where there are not four
+-- R9.16: the float of the first four bytes, and +0 where there are not four
 unfoldable pub firstSample : List ℕ → Float
 firstSample bytes = cond (leb 4 (length bytes)) (ofBits binary32 (valueOf (take 4 bytes))) +0
 
--- n floats, four bytes each
+-- R9.16: n floats, four bytes each
 abbrev pub decoded : ℕ → List ℕ → List Float
 decoded zero bytes = []
 decoded (suc n) bytes = firstSample bytes ∷ decoded n (drop 4 bytes)
 
--- four bytes for each float. NaN's are those of the quiet NaN 7fc00000
+-- R9.17, R9.18: four bytes for each float. NaN's are those of the quiet NaN 7fc00000
 abbrev pub encoded : List Float → List ℕ
 encoded [] = []
 encoded (x ∷ xs) = bytesOf 4 (toBits binary32 x) ++ encoded xs
 
--- bytes that were written over: by as many floats as they have room for, and the rest as it was
+-- R9.17: bytes that were written over, by as many floats as they have room for, and the rest as it was
 unfoldable pub written : List Float → List ℕ → List ℕ
 written xs out =
     let k = min (length xs) (length out / 4) in
