@@ -1,4 +1,4 @@
--- What is due of a call: "The lowest number that applies is given." "Lengths are judged by the state's F."
+-- What is due of a call: the least number that applies (R2.2), lengths by the state's own F (R2.4).
 use Prim.Native.Nat.{ℕ}
 use mathlib.Core.Bool.{Bool, true, not, _&&_}
 use mathlib.Core.List.{List}
@@ -19,11 +19,12 @@ use Rattle.unit.specs.Model.{Model}
 use Rattle.unit.specs.Sizes.{lengthsOf, lengths, storeLen, workLen, coefficientsLen}
 use Rattle.unit.specs.Range.{inRange}
 
--- fresh: 2, then 3
+-- R2.20: fresh, 2 and then 3
 unfoldable pub judgedFresh : Model → ℕ → ℕ → ℕ → Answer
 judgedFresh m rate frame store = need (rateOk rate && frameOk frame) BadSize (need (eqb store (storeLen m (lengthsOf m frame))) BadLength Accepted)
 
--- any other call of the unit: 1, then 3 unless every lent slice has its length, 4 unless its line is one, and 5 unless it is its turn
+-- R2.11, R2.13 to R2.15: any other call of the unit. 1, then 3 unless every lent slice has its length, 4 unless its line is one, and 5 unless
+-- it is its turn
 unfoldable pub judged : Model → UnitState → Bool → Bool → Bool → Answer
 judged m u lent line turn =
     need (inRange m u) BadState (need lent BadLength (need line BadIndex (need turn OutOfTurn Accepted)))
@@ -34,34 +35,34 @@ storeOk m u store = eqb store (storeLen m (lengths m u))
 abbrev pub workOk : Model → UnitState → ℕ → Bool
 workOk m u work = eqb work (workLen m (u .settings .frame))
 
--- what a whole call and a close are lent: store, work and output
+-- R2.23, R2.30: what a whole call and a close are lent, store, work and output
 abbrev pub lentOk : Model → UnitState → ℕ → ℕ → ℕ → Bool
 lentOk m u store work output = storeOk m u store && (workOk m u work && eqb output (u .settings .frame))
 
--- what an apply is given: coefficients and input
+-- R2.22: what an apply is given, coefficients and input
 abbrev pub givenOk : Model → UnitState → ℕ → ℕ → Bool
 givenOk m u coefficients input = eqb coefficients (coefficientsLen m) && eqb input (u .settings .frame)
 
--- "8: an input sample isn't finite .. with the index of the first one"
+-- R2.18: 8, and where the first one stands
 abbrev pub badInput : Found → Answer
 badInput (At i) = BadSample i
 badInput Nothing = Accepted
 
--- what an apply is given besides: 6, then 7, then 8
+-- R2.16 to R2.18: what an apply is given besides, 6, then 7, then 8
 unfoldable pub judgedGiven : Times → List Float → List Float → Answer
 judgedGiven t coefficients input =
     need (timesOk t) BadTime (need (allFinite coefficients) BadCoefficient (badInput (firstBad input)))
 
--- reset: 1 3 5
+-- R2.21: reset, 1 3 5
 abbrev pub judgedReset : Model → UnitState → ℕ → Answer
 judgedReset m u store = judged m u (storeOk m u store) true (not (u .held .busy))
 
--- a whole tail: 1 3 5
+-- R2.23: a whole tail, 1 3 5
 abbrev pub judgedTail : Model → UnitState → ℕ → ℕ → ℕ → Answer
 judgedTail m u store work output =
     judged m u (lentOk m u store work output) true (not (u .held .busy))
 
--- a whole apply: 1 3 5 6 7 8
+-- R2.22: a whole apply, 1 3 5 6 7 8
 abbrev pub judgedApply : Model → UnitState → Times → List Float → List Float → ℕ → ℕ → ℕ → Answer
 judgedApply m u t coefficients input store work output =
     orElse

@@ -1,4 +1,4 @@
--- The marks of an open frame: which of its jobs are done.
+-- The marks of an open frame: which of its jobs are done (R5.2).
 use Prim.Native.Nat.{ℕ, _+_}
 use mathlib.Core.Bool.{Bool, false}
 use mathlib.Core.List.{List}
@@ -7,7 +7,7 @@ use Rattle.samples.specs.Lists.{allFrom}
 use Rattle.unit.specs.UnitState.{UnitState}
 use Rattle.unit.specs.Model.{Model}
 
--- read i's mark stands at i, and after the reads' the mix's, the lines' and the output's
+-- R5.2: read i's mark stands at i, and after the reads' the mix's, the lines' and the output's
 abbrev pub mixMark : Model → ℕ
 mixMark m = m .lines
 
@@ -20,10 +20,10 @@ outputMark m = m .lines + m .lines + 1
 abbrev pub marked : UnitState → ℕ → Bool
 marked u k = getD (u .held .marks) k false
 
--- "Close: after all 34"
+-- R5.20: all jobs are done
 abbrev pub allDone : List Bool → Bool
 allDone marks = allFrom (λ k done. done) 0 marks
 
--- "after all 16 reads"
+-- R5.12, R5.14: all reads are done
 abbrev pub allRead : Model → UnitState → Bool
 allRead m u = allDone (take (m .lines) (u .held .marks))

@@ -1,5 +1,4 @@
--- What is due of each call of a frame done as jobs, 9 aside: "With a frame open, open, whole calls and reset are answered 5; with none, jobs,
--- close and abandon are."
+-- What is due of each call of a frame done as jobs, 9 aside. An open has its turn with no frame open, every other call with one (R5.4, R5.5).
 use Prim.Native.Nat.{ℕ}
 use mathlib.Core.Bool.{true, not, _&&_}
 use mathlib.Core.List.{List}
@@ -14,39 +13,39 @@ use Rattle.unit.specs.Model.{Model}
 use Rattle.judges.specs.Judges.{judged, storeOk, workOk, lentOk, givenOk, judgedGiven}
 use Rattle.judges.specs.Marks.{mixMark, lineMark, outputMark, marked, allDone, allRead}
 
--- "Open (apply or tail; input, times, coefficients given here)". Apply: 1 3 5 6 7 8
+-- R2.24: open apply, 1 3 5 6 7 8
 abbrev pub judgedOpenApply : Model → UnitState → Times → List Float → List Float → ℕ → ℕ → Answer
 judgedOpenApply m u t coefficients input store work =
     orElse
     (judged m u (givenOk m u (length coefficients) (length input) && (storeOk m u store && workOk m u work)) true (not (u .held .busy)))
     (judgedGiven t coefficients input)
 
--- tail: 1 3 5
+-- R2.25: open tail, 1 3 5
 abbrev pub judgedOpenTail : Model → UnitState → ℕ → ℕ → Answer
 judgedOpenTail m u store work = judged m u (storeOk m u store && workOk m u work) true (not (u .held .busy))
 
--- "Read i: once each.": 1 3 4 5
+-- R2.26, R5.11: read i, 1 3 4 5
 abbrev pub judgedRead : Model → UnitState → ℕ → ℕ → ℕ → Answer
 judgedRead m u i store work =
     judged m u (storeOk m u store && workOk m u work) (ltb i (m .lines)) (u .held .busy && not (marked u i))
 
--- "Mix: once, after all 16 reads.": 1 3 5
+-- R2.27, R5.12: the mix, 1 3 5
 abbrev pub judgedMix : Model → UnitState → ℕ → Answer
 judgedMix m u work = judged m u (workOk m u work) true (u .held .busy && (allRead m u && not (marked u (mixMark m))))
 
--- "Line i: once each, after the mix": 1 3 4 5
+-- R2.28, R5.13: line i, 1 3 4 5
 abbrev pub judgedLine : Model → UnitState → ℕ → ℕ → Answer
 judgedLine m u i work =
     judged m u (workOk m u work) (ltb i (m .lines)) (u .held .busy && (marked u (mixMark m) && not (marked u (lineMark m i))))
 
--- "Output: once, after all 16 reads; it need not wait for the mix.": 1 3 5
+-- R2.29, R5.14: the output, 1 3 5
 abbrev pub judgedOutput : Model → UnitState → ℕ → Answer
 judgedOutput m u work = judged m u (workOk m u work) true (u .held .busy && (allRead m u && not (marked u (outputMark m))))
 
--- "Close: after all 34": 1 3 5
+-- R2.30, R5.20: close, 1 3 5
 abbrev pub judgedClose : Model → UnitState → ℕ → ℕ → ℕ → Answer
 judgedClose m u store work output = judged m u (lentOk m u store work output) true (u .held .busy && allDone (u .held .marks))
 
--- "Abandon: any open frame": 1 3 5
+-- R2.31, R5.28: abandon, 1 3 5
 abbrev pub judgedAbandon : Model → UnitState → ℕ → Answer
 judgedAbandon m u work = judged m u (workOk m u work) true (u .held .busy)

@@ -1,4 +1,4 @@
--- The wall unit's sizes are document 01's: "Store: exactly 7,600 + 16F floats. Work: exactly 34F + 1,348." Assumes nothing.
+-- R1.19, R1.21: the wall unit's sizes as F says them. Assumes nothing.
 use mathlib.Core.Path.{_≡_}
 use Prim.Native.Nat.{ℕ, _+_, _*_}
 use native.Mathlib.Omega.{arith}

@@ -1,4 +1,4 @@
--- The state that fresh gives.
+-- R1.32: the state that fresh gives.
 use Prim.Native.Nat.{ℕ}
 use mathlib.Core.Bool.{false}
 use lib.IntN.{pos}
@@ -15,7 +15,7 @@ use Rattle.unit.specs.Sizes.{filtersLen, jobsLen}
 abbrev pub blank : Filter
 blank = fromCoefficients +0 +0 +0 +0 +0
 
--- while no frame is open, "all that is held for one is blank: kind apply, no job marked, count 0, filters all +0"
+-- R1.30: what is held while no frame is open
 abbrev pub noFrame : Model → Held
 noFrame m = record {
   busy = false;
@@ -25,7 +25,7 @@ noFrame m = record {
   before = replicate (filtersLen m) blank;
 }
 
--- "cursors, count and filters zero, no frame open"
+-- R1.32: the initial state of a rate and a frame
 abbrev pub freshUnit : Model → ℕ → ℕ → UnitState
 freshUnit m rate frame = record {
   settings = record { rate = rate; frame = frame };

@@ -1,4 +1,4 @@
--- What one model of the unit is built of. Every definition above this one is over any model.
+-- R1.17: what one model of the unit is built of. Every definition above this one is over any model.
 use Prim.Native.Nat.{ℕ}
 use mathlib.Core.List.{List, [], _∷_}
 use lib.Ieee.{Float, binary32, ofBits}
@@ -13,7 +13,7 @@ pub record Model : Type 0 where
   pub factor : Float
   pub divisor : Float
 
--- the wall unit: "Allpass stage 0: x ring 225, y ring 341. Stage 1: x ring 341, y ring 441." 0x3e80_0000 is 0.25 and 0x4180_0000 is 16
+-- R1.8, R1.12, R1.13: the wall unit. 0x3e80_0000 is 0.25 and 0x4180_0000 is 16
 abbrev pub wall : Model
 wall = record {
   lines = 16;

@@ -1,4 +1,4 @@
--- What a call of the unit gives back.
+-- What a call of the unit gives back: its answer, the verdict and the state.
 use Rattle.samples.specs.declared.Answer.{Answer}
 use Rattle.audio_buffer.specs.declared.AudioEffectState.{AudioEffectState}
 use Rattle.unit.specs.declared.Outcome.{Outcome}

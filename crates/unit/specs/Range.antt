@@ -1,4 +1,4 @@
--- When a state is in range.
+-- When a state is in range (R1.27 to R1.31).
 use Prim.Native.Nat.{ℕ, zero, suc, _+_}
 use mathlib.Core.Bool.{Bool, true, false, not, _&&_, _||_}
 use mathlib.Core.List.{List}
@@ -14,7 +14,7 @@ use Rattle.unit.specs.UnitState.{UnitState}
 use Rattle.unit.specs.Model.{Model}
 use Rattle.unit.specs.Sizes.{lengths}
 
--- "every cursor is below its ring's length": those of one ring, and of rings of the lengths ls
+-- R1.29: the cursors of one ring, and of rings of the lengths ls
 unfoldable pub below : ℕ → Cursors → Bool
 below l c = ltb (c .read .0) l && ltb (c .write .0) l
 
@@ -32,11 +32,11 @@ unmarked ms = allFrom (λ k done. not done) 0 ms
 unfoldable pub blankFilters : List Filter → Bool
 blankFilters fs = allFrom (λ k f. blankFilter f) 0 fs
 
--- "all that is held for one is blank: kind apply, no job marked, count 0, filters all +0"
+-- R1.30: what is held is blank
 unfoldable pub blankOpen : UnitState → Bool
 blankOpen u = not (u .held .tail) && (isZero (u .held .next) && (unmarked (u .held .marks) && blankFilters (u .held .before)))
 
--- "It is in range when rate and F are, every cursor is below its ring's length, and, while no frame is open, all that is held for one is blank"
+-- R1.27: rate and frame, the cursors, and what is held unless a frame is open
 unfoldable pub inRange : Model → UnitState → Bool
 inRange m u =
     (rateOk (u .settings .rate) && frameOk (u .settings .frame))

@@ -1,4 +1,4 @@
--- What a frame asks of the rings and of the memory lent.
+-- What a frame asks of the rings and of the memory lent (R3.37).
 use Prim.Native.Nat.{ℕ}
 use mathlib.Core.Bool.{Bool, _&&_}
 use mathlib.Core.List.{List}
@@ -10,11 +10,11 @@ use Rattle.unit.specs.Model.{Model}
 use Rattle.unit.specs.Sizes.{storeLen, workLen}
 use Rattle.unit.specs.Range.{cursorsIn}
 
--- every ring of the lengths ls holds a frame of f samples, and is no longer than a ring may be
+-- every ring of the lengths ls holds a frame of f samples, and is no longer than a ring may be (R1.4)
 unfoldable pub ringsHold : ℕ → List ℕ → Bool
 ringsHold f ls = allFrom (λ i l. leb f l && leb l 65536) 0 ls
 
--- the lengths of the memory lent: of a store of lines' rings of the lengths ls, of the work memory and of the output
+-- R1.19, R1.21, R1.25: the lengths of the memory lent, of a store of lines' rings of the lengths ls, of the work memory and of the output
 abbrev pub lentFor : Model → ℕ → List ℕ → ℕ → ℕ → ℕ → Bool
 lentFor m f ls store work output = eqb store (storeLen m ls) && (eqb work (workLen m f) && eqb output f)
 

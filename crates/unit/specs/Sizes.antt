@@ -1,4 +1,4 @@
--- How much memory a unit is lent.
+-- How much memory a unit is lent (R1.10, R1.19, R1.21).
 use Prim.Native.Nat.{ℕ, zero, suc, _+_, _*_}
 use mathlib.Core.Path.{_≡_}
 use mathlib.Core.List.{List, [], _∷_}
@@ -6,7 +6,7 @@ use lib.ListN.{length}
 use Rattle.unit.specs.UnitState.{UnitState}
 use Rattle.unit.specs.Model.{Model}
 
--- "line i has length D[i mod 4] + F": the rings of n lines more, from line i on
+-- R1.10: the lengths of the rings of n lines more, from line i on
 unfoldable pub lengthsFrom : Model → ℕ → ℕ → ℕ → List ℕ
 lengthsFrom m f zero i = []
 lengthsFrom m f (suc n) i = (m .delay i + f) ∷ lengthsFrom m f n (i + 1)
@@ -22,24 +22,24 @@ unfoldable pub total : List ℕ → ℕ
 total [] = 0
 total (l ∷ ls) = l + total ls
 
--- the store is the lines' rings, of lengths ls, one after the other, and then the allpass rings: "exactly 7,600 + 16F floats"
+-- R1.19, R1.20: the store is the lines' rings, of lengths ls, one after the other, and then the allpass rings
 unfoldable pub storeLen : Model → List ℕ → ℕ
 storeLen m ls = total ls + total (m .passes)
 
--- the work memory is rows of F floats, one for the input, one a line read, one a line mixed and one for the output, and then the
--- allpass rings: "exactly 34F + 1,348"
+-- R1.21, R1.22: the work memory is rows of F floats, one for the input, one a line read, one a line mixed and one for the output, and then
+-- the allpass rings
 unfoldable pub workLen : Model → ℕ → ℕ
 workLen m f = (m .lines + m .lines + 2) * f + total (m .passes)
 
--- three band filters a line, and three of the tone
+-- R1.15: three band filters a line, and three of the tone
 abbrev pub filtersLen : Model → ℕ
 filtersLen m = 3 * m .lines + 3
 
--- "255 coefficients come from the host, five per filter"
+-- R1.16: five a filter
 abbrev pub coefficientsLen : Model → ℕ
 coefficientsLen m = 5 * filtersLen m
 
--- the jobs of a frame: a read and a line job for each line, the mix and the output
+-- R5.1: the jobs of a frame, a read and a line job for each line, the mix and the output
 abbrev pub jobsLen : Model → ℕ
 jobsLen m = m .lines + m .lines + 2
 

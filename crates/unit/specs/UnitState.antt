@@ -1,5 +1,4 @@
--- The unit's state over lists, as a record of parts: "A state holds rate, F, the cursors, the count and the filters; for an open frame also its
--- kind, its marks, the count to be set and the filters from before it; nothing else."
+-- R1.26: the unit's state over lists, as a record of parts.
 use Prim.Native.Nat.{ℕ}
 use mathlib.Core.Bool.{Bool}
 use mathlib.Core.List.{List}
@@ -17,7 +16,8 @@ pub record RingCursors : Type 0 where
   pub lines : List Cursors
   pub passes : List Cursors
 
--- what is held for an open frame: `busy` says that there is one, and `tail` of which kind it is
+-- what is held for an open frame: `busy` says that there is one, and `tail` of which kind it is; `next` is the count that a close sets, and
+-- `before` the filters from before the open
 pub record Held : Type 0 where
   pub busy : Bool
   pub tail : Bool
