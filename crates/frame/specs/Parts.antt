@@ -6,6 +6,6 @@ use Rattle.iir.specs.declared.Filter.{Filter}
 use Rattle.stages.specs.Settle.{filtersFinite}
 use Rattle.rows.specs.Rows.{Rows}
 
--- "9 judges the new filter numbers, the rows put, the four allpass rings and the output.", as they lie in the work memory
+-- R5.21: what 9 judges, as it lies in the work memory
 unfoldable pub rowsFinite : List Filter → Rows → Bool
 rowsFinite fs r = filtersFinite fs && (allFinite (r .mixed) && (allFinite (r .output) && allFinite (r .rings)))

@@ -32,7 +32,7 @@ leftBy m f ls cs qs ok gs r store work output = record {
   output = cond ok (r .output) output;
 }
 
--- where there is no room for it nothing is done
+-- R3.37: where there is no room for it nothing is done
 abbrev pub untouched : List Cursors → List Cursors → List Filter → List Float → List Float → List Float → Left
 untouched cs qs fs store work output =
     record { stepped = record { ok = false; filters = fs; lines = cs; passes = qs }; store = store; work = work; output = output }
@@ -41,7 +41,7 @@ untouched cs qs fs store work output =
 abbrev pub rowsIn : List Float → Frame → Rows
 rowsIn input r = record { input = input; reads = r .reads; mixed = r .lines .put; output = r .output .out; rings = r .output .rings }
 
--- a whole frame, from the filters fs and the input at the front of the work memory
+-- R4.5 to R4.20: a whole frame, from the filters fs and the input at the front of the work memory
 abbrev pub ranWithRoom : Model → ℕ → List ℕ → Bool → List Cursors → List Cursors → List Filter → List Float → List Float → List Float → Left
 ranWithRoom m f ls tail cs qs fs store work output =
     let r = frameIn m f ls tail cs qs fs (take f work) store in
@@ -53,7 +53,7 @@ ran m f ls tail cs qs fs store work output =
     (ranWithRoom m f ls tail cs qs fs store work output)
     (untouched cs qs fs store work output)
 
--- the end of a frame whose rows lie in the work memory, and whose filters are fs
+-- R5.21 to R5.23: the end of a frame whose rows lie in the work memory, and whose filters are fs
 abbrev pub finishedWithRoom : Model → ℕ → List ℕ → List Cursors → List Cursors → List Filter → List Float → List Float → List Float → Left
 finishedWithRoom m f ls cs qs fs store work output =
     let r = rowsOf m f work in

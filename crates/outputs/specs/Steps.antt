@@ -1,4 +1,4 @@
--- What step 5 of n lines leaves of the rows lent and of the filters: where the rows don't fit, all is as it was.
+-- What step 5 of n lines leaves of the rows lent and of the filters: where the rows don't fit, all is as it was (R3.37).
 use Prim.Native.Nat.{ℕ, _+_, _*_}
 use mathlib.Core.Bool.{cond}
 use mathlib.Core.List.{List, _++_}
@@ -10,7 +10,7 @@ use Rattle.iir.specs.declared.Filter.{Filter}
 use Rattle.stages.specs.Frame.{OutputRow, outputRow}
 use Rattle.rows.specs.Fits.{outputFits}
 
--- step 5 from n rows read and the allpass rings, which lie after n mixed rows and the output
+-- R4.10 to R4.12: step 5 from n rows read and the allpass rings, which lie after n mixed rows and the output
 abbrev pub outputFrom : ℕ → ℕ → Float → List ℕ → List Cursors → List Filter → List Float → OutputRow
 outputFrom n f d ps qs fs rows = outputRow n f d ps qs fs (drop (n * f + n * f + f) rows) (take (n * f) rows)
 

@@ -1,4 +1,4 @@
--- What the steps on rows ask of the memory lent.
+-- What the steps on rows ask of the memory lent (R3.37).
 use Prim.Native.Nat.{ℕ, _+_, _*_, _%_}
 use mathlib.Core.Bool.{Bool, _&&_}
 use mathlib.Core.List.{List}

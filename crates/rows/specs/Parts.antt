@@ -1,4 +1,4 @@
--- Step 4 in the work memory of a unit of model m, if there is `room` for its frame: else all is as it was.
+-- Step 4 in the work memory of a unit of model m, if there is `room` for its frame: else all is as it was (R3.37).
 use Prim.Native.Nat.{ℕ, _*_}
 use mathlib.Core.Bool.{Bool, cond}
 use mathlib.Core.List.{List}
@@ -10,19 +10,19 @@ use Rattle.unit.specs.Model.{Model}
 use Rattle.stages.specs.Lines.{three, threeOf, plus}
 use Rattle.rows.specs.Rows.{Rows, rowsOf, laid}
 
--- step 4 of line i, "bands and input, no put": its three filters are those from 3 i on, and a tail adds no input
+-- R5.13: step 4 of line i. Its three filters are those from 3 i on, and a tail adds no input
 abbrev pub lineIn : ℕ → ℕ → Bool → List Filter → Rows → List Float
 lineIn f i tail fs r =
     let out = bandsOut (three (3 * i) fs) (row f i (r .mixed)) in
     cond tail out (plus out (r .input))
 
--- the work memory after it
+-- R5.13, R5.17: the work memory after it
 unfoldable pub lineLaid : Model → ℕ → ℕ → Bool → List Filter → Bool → List Float → List Float
 lineLaid m f i tail fs room work =
     let r = rowsOf m f work in
     cond room (laid (r .input) (r .reads) (setRow f i (lineIn f i tail fs r) (r .mixed)) (r .output) (r .rings)) work
 
--- and the filters
+-- R5.13, R5.17: and the filters
 unfoldable pub lineEnds : Model → ℕ → ℕ → List Filter → Bool → List Float → List Filter
 lineEnds m f i fs room work =
     cond room (over (3 * i) (threeOf (bandsEnd (three (3 * i) fs) (row f i (rowsOf m f work .mixed)))) fs) fs

@@ -14,7 +14,7 @@ use Rattle.rows.specs.Rows.{Rows, rowsOf, laid}
 use Rattle.rows.specs.Fits.{workFor}
 use Rattle.rows.specs.Rings.{ringAt}
 
--- step 2 of line i of rings of the lengths ls, its cursors c: "Read F samples of each line." A row that its ring doesn't give stays as it is
+-- R4.5: step 2 of line i of rings of the lengths ls, its cursors c. A row that its ring doesn't give stays as it is (R3.37)
 abbrev pub readIn : ℕ → List ℕ → ℕ → Cursors → List Float → Rows → List Float
 readIn f ls i c store r = getOut (ringAt ls 0 i store) c (row f i (r .reads))
 

@@ -1,4 +1,4 @@
--- Where the ring of a line lies in the store.
+-- R1.20: where the ring of a line lies in the store.
 use Prim.Native.Nat.{ℕ, zero, suc, _+_}
 use mathlib.Core.List.{List}
 use lib.Ieee.{Float}

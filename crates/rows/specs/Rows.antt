@@ -1,11 +1,11 @@
--- How the work memory of a frame lies.
+-- R1.22: how the work memory of a frame lies.
 use Prim.Native.Nat.{ℕ, _+_, _*_}
 use mathlib.Core.List.{List, _++_}
 use lib.Ieee.{Float}
 use lib.ListN.{take, drop}
 use Rattle.unit.specs.Model.{Model}
 
--- the work memory: the input, the rows read, the rows mixed, which become those to put, the output and the allpass rings
+-- the work memory: the input, the rows read, the rows mixed, which become those to put (R1.23), the output and the allpass rings
 pub record Rows : Type 0 where
   pub input : List Float
   pub reads : List Float

@@ -1,4 +1,4 @@
--- What steps 3 and 4 of n lines leave of the rows lent and of the filters: where the rows don't fit, all is as it was.
+-- What steps 3 and 4 of n lines leave of the rows lent and of the filters: where the rows don't fit, all is as it was (R3.37).
 use Prim.Native.Nat.{ℕ, _*_}
 use mathlib.Core.Bool.{Bool, cond}
 use mathlib.Core.List.{List, _++_}
@@ -8,7 +8,7 @@ use Rattle.iir.specs.declared.Filter.{Filter}
 use Rattle.stages.specs.Frame.{LineRows, lineRows}
 use Rattle.rows.specs.Fits.{linesFit}
 
--- steps 3 and 4 from the input and the n rows read after it
+-- R4.6 to R4.9: steps 3 and 4 from the input and the n rows read after it
 abbrev pub linesIn : ℕ → ℕ → Float → Bool → List Filter → List Float → LineRows
 linesIn n f k tail fs rows = lineRows n f k tail fs (take f rows) (take (n * f) (drop f rows))
 

@@ -1,4 +1,4 @@
--- One frame, step by step, with a name for what each stage gives.
+-- One frame, step by step (R4.3 to R4.12), with a name for what each stage gives.
 use Prim.Native.Nat.{ℕ, _+_, _*_, _/_}
 use mathlib.Core.Bool.{Bool, cond}
 use mathlib.Core.List.{List, _++_, map}
@@ -16,11 +16,11 @@ use Rattle.unit.specs.Sizes.{lengths, total}
 use Rattle.allpass.specs.Passes.{Stage, passOut, passEnd}
 use Rattle.stages.specs.Lines.{noFilter, readRows, bandRows, bandEnds, addRows, sumRows, three, threeOf}
 
--- a list cut into stretches of the lengths ls: stretch k
+-- R1.20, R1.22: a list cut into stretches of the lengths ls, stretch k
 unfoldable pub stretch : List ℕ → ℕ → List Float → List Float
 stretch ls k xs = take (getD ls k 0) (drop (total (take k ls)) xs)
 
--- the allpass stage whose x ring is stretch k of `rings` and whose y ring is the next one
+-- R3.34: the allpass stage whose x ring is stretch k of `rings` and whose y ring is the next one
 abbrev pub stageAt : List ℕ → List Cursors → List Float → ℕ → Stage
 stageAt ls cs rings k = record {
   x = stretch ls k rings;
@@ -32,7 +32,7 @@ stageAt ls cs rings k = record {
 abbrev pub ringsOf : Stage → Stage → List Float
 ringsOf s t = s .x ++ (s .y ++ (t .x ++ t .y))
 
--- what step 4 gives, a name for each stage's rows, and the lines' filters after it
+-- R4.6 to R4.9: what step 4 gives, a name for each stage's rows, and the lines' filters after it
 pub record LineRows : Type 0 where
   pub mixed : List Float
   pub band0 : List Float
@@ -41,7 +41,7 @@ pub record LineRows : Type 0 where
   pub put : List Float
   pub filters : List Filter
 
--- steps 3 and 4 of n lines, the mix's factor k, from the rows that were read: a tail adds no input
+-- R4.6 to R4.9: steps 3 and 4 of n lines, the mix's factor k, from the rows that were read. A tail adds no input
 unfoldable pub lineRows : ℕ → ℕ → Float → Bool → List Filter → List Float → List Float → LineRows
 lineRows n f k tail fs input reads =
     let mixed = mixedRows n f k reads in
@@ -57,7 +57,7 @@ lineRows n f k tail fs input reads =
       filters = bandEnds f n 0 fs mixed;
     }
 
--- what step 5 gives, a name for each stage's row, the allpass rings and the tone's filters after it
+-- R4.10 to R4.12: what step 5 gives, a name for each stage's row, the allpass rings and the tone's filters after it
 pub record OutputRow : Type 0 where
   pub sum : List Float
   pub pass0 : List Float
@@ -68,7 +68,7 @@ pub record OutputRow : Type 0 where
   pub rings : List Float
   pub filters : List Filter
 
--- step 5 of n lines, the sum divided by d, from the rows that were read and the allpass rings with their lengths ls and cursors cs
+-- R4.10 to R4.12: step 5 of n lines, the sum divided by d, from the rows that were read and the allpass rings with their lengths ls and cursors cs
 unfoldable pub outputRow : ℕ → ℕ → Float → List ℕ → List Cursors → List Filter → List Float → List Float → OutputRow
 outputRow n f d ls cs fs rings reads =
     let k = 3 * n in
@@ -96,7 +96,7 @@ pub record Frame : Type 0 where
   pub lines : LineRows
   pub output : OutputRow
 
--- "All 51 filters": the lines' and then the tone's
+-- R1.15: all filters after the frame, the lines' and then the tone's
 abbrev pub newFilters : Frame → List Filter
 newFilters r = r .lines .filters ++ r .output .filters
 
@@ -107,7 +107,7 @@ frameFrom m f tail cs fs input rings reads = record {
   output = outputRow (m .lines) f (m .divisor) (m .passes) cs fs rings reads;
 }
 
--- the allpass rings, which lie after lines' rings of the lengths ls
+-- R1.20: the allpass rings, which lie after lines' rings of the lengths ls
 abbrev pub passesIn : List ℕ → List Float → List Float
 passesIn ls store = drop (total ls) store
 

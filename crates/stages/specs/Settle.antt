@@ -22,27 +22,27 @@ use Rattle.stages.specs.Frame.{Frame, newFilters}
 unfoldable pub filtersFinite : List Filter → Bool
 filtersFinite fs = allFrom (λ k f. finiteFilter f) 0 fs
 
--- "9 judges the new filter numbers, the rows put, the four allpass rings and the output."
+-- R4.14: what 9 judges of a frame
 unfoldable pub frameFinite : Frame → Bool
 frameFinite r =
     filtersFinite (newFilters r) && (allFinite (r .lines .put) && (allFinite (r .output .out) && allFinite (r .output .rings)))
 
--- "9: the frame would keep or hand out a number that isn't finite"
+-- R2.19: 9 unless all of it is finite
 abbrev pub nineOf : Frame → Answer
 nineOf r = need (frameFinite r) NotFinite Accepted
 
--- the store after each row is put into its line, from line i on, with other allpass rings after the lines
+-- R4.17, R4.18: the store after each row is put into its line, from line i on, with other allpass rings after the lines
 unfoldable pub putRows : ℕ → ℕ → ℕ → List ℕ → List Cursors → List Float → List Float → List Float → List Float
 putRows f zero i ls cs rows rings store = rings
 putRows f (suc n) i ls cs rows rings store =
     write (take (getD ls i 0) store) (getD cs i (both 0) .write .0) (take f rows)
     ++ putRows f n (i + 1) ls cs (drop f rows) rings (drop (getD ls i 0) store)
 
--- a unit's store after the frame r
+-- R4.17, R4.18: a unit's store after the frame r
 unfoldable pub settled : Model → UnitState → Frame → List Float → List Float
 settled m u r store = putRows (u .settings .frame) (m .lines) 0 (lengths m u) (u .cursors .lines) (r .lines .put) (r .output .rings) store
 
--- cursors of a ring of length l, f samples on: they go round a ring that is shorter than a frame more than once
+-- R4.20: cursors of a ring of length l, f samples on. They go round a ring that is shorter than a frame more than once
 abbrev pub movedBy : ℕ → ℕ → Cursors → Cursors
 movedBy f l c = record { read = record { 0 = (c .read .0 + f) % l }; write = record { 0 = (c .write .0 + f) % l } }
 
@@ -51,7 +51,7 @@ allMoved f [] cs = cs
 allMoved f (l ∷ ls) [] = []
 allMoved f (l ∷ ls) (c ∷ cs) = movedBy f l c ∷ allMoved f ls cs
 
--- a unit's cursors after a frame
+-- R4.20: a unit's cursors after a frame
 abbrev pub moved : Model → UnitState → RingCursors
 moved m u = record {
   lines = allMoved (u .settings .frame) (lengths m u) (u .cursors .lines);

@@ -8,12 +8,11 @@ use lib.ListN.{length, take, drop}
 use Rattle.samples.specs.Binary32.{_⊘_}
 use Rattle.stages.specs.Lines.{plus}
 
--- "then add the input sample", and step 5's sums: the first f samples are added to the last f. A stretch that has no two such rows stays
--- as it is
+-- R4.8, R4.10: the first f samples are added to the last f. A stretch that has no two such rows stays as it is
 unfoldable pub addedFirst : ℕ → List Float → List Float
 addedFirst f xs = let at = length xs - f in cond (leb (f + f) (length xs)) (take at xs ++ plus (drop at xs) (take f xs)) xs
 
--- step 5: "divide by 16"
+-- R4.10: the sum divided
 abbrev pub divided : Float → List Float → List Float
 divided d xs = map (λ x. x ⊘ d) xs
 
