@@ -32,14 +32,14 @@ pub record Ending : Type 0 where
 abbrev pub given : Ending → Outcome
 given e = outcome (e .answer) (e .memory .unit) (e .verdict)
 
--- refused with 1 to 8: "the state given; all memory unchanged"; "A refused call .. gives .. for a verdict TailComplete."
+-- R2.32, R2.34: a refused call leaves the memory w, and its verdict is TailComplete
 abbrev pub refused : Answer → Memory → List Float → Ending
 refused due w output = record { answer = due; verdict = TailComplete; memory = w; output = output }
 
--- a call that is lent no output and leaves no tail to wait for: `new` where it is accepted, and `old` where it is refused
+-- R2.35: a call that is lent no output and leaves no tail to wait for. `new` where it is accepted, and `old` where it is refused
 abbrev pub quietly : Answer → Memory → Memory → Ending
 quietly due new old = record { answer = due; verdict = TailComplete; memory = accept due new old; output = [] }
 
--- memory "all +0"
+-- memory that is +0 throughout
 abbrev pub cleared : List Float → List Float
 cleared xs = replicate (length xs) +0

@@ -1,4 +1,4 @@
--- A frame done as jobs: opened, its jobs, closed or abandoned.
+-- A frame done as jobs (R5): opened, its jobs, closed or abandoned.
 use Prim.Native.Nat.{ℕ, _*_}
 use mathlib.Core.Bool.{Bool, true, false, cond}
 use mathlib.Core.List.{List}
@@ -31,13 +31,13 @@ use Rattle.frame.specs.Parts.{rowsFinite}
 use Rattle.machine.specs.Ending.{Memory, Ending, refused, quietly, cleared}
 use Rattle.machine.specs.Whole.{Play, apply, tail, isTail, filtersFor, inputFor, countFor}
 
--- ---- open: "apply or tail; input, times, coefficients given here"
+-- ---- open (R5.3 to R5.8)
 
 abbrev pub openDue : Model → UnitState → Play → ℕ → ℕ → Answer
 openDue m u (apply t coefficients input) store work = judgedOpenApply m u t coefficients input store work
 openDue m u tail store work = judgedOpenTail m u store work
 
--- the unit with a frame open: "its kind, its marks, the count to be set and the filters from before it"
+-- R5.6: the unit with a frame open
 abbrev pub unitOpen : Model → UnitState → Bool → List Filter → ℤ → UnitState
 unitOpen m u kind filters next = record {
   settings = u .settings;
@@ -50,7 +50,7 @@ unitOpen m u kind filters next = record {
 abbrev pub unitOpened : Model → UnitState → Play → UnitState
 unitOpened m u p = unitOpen m u (isTail p) (filtersFor m u p) (countFor u p)
 
--- "sets every work float: input, the four allpass rings copied, else +0"
+-- R5.8: all of the work memory is set, beside input and rings to +0
 unfoldable pub openLaid : Model → ℕ → List Float → List Float → List Float
 openLaid m f input rings =
     let rows = replicate (m .lines * f) +0 in
@@ -68,9 +68,8 @@ memoryOpened m w p =
 abbrev pub opened : Model → Memory → Play → Ending
 opened m w p = quietly (openDue m (w .unit) p (length (w .store)) (length (w .work))) (memoryOpened m w p) w
 
--- ---- the jobs: "After an accepted job its own rows (read i; all mixed; mixed i; output and work rings) and its filters hold exactly what
--- steps 2 to 5 give from the state, store and work handed to that job; every other work float and, its mark aside, the rest of the state
--- are unchanged."
+-- ---- the jobs (R5.10 to R5.17): each works from the state, store and work memory that it is handed, and leaves its rows, its filters and its
+-- mark there, and all else as it was
 
 pub data Job : Type 0 where
   readJob : ℕ → Job
@@ -90,7 +89,7 @@ jobDue m w mixJob = judgedMix m (w .unit) (length (w .work))
 jobDue m w (lineJob i) = judgedLine m (w .unit) i (length (w .work))
 jobDue m w outputJob = judgedOutput m (w .unit) (length (w .work))
 
--- step 2 of line i: "Read F samples of each line."
+-- R5.11: step 2 of line i
 abbrev pub readRow : Model → UnitState → ℕ → List Float → List Float
 readRow m u i store = read (ringAt (lengths m u) 0 i store) (getD (u .cursors .lines) i (both 0) .read .0) (u .settings .frame)
 
@@ -99,27 +98,27 @@ readWork m u i store work =
     let r = rowsOf m (u .settings .frame) work in
     laid (r .input) (setRow (u .settings .frame) i (readRow m u i store) (r .reads)) (r .mixed) (r .output) (r .rings)
 
--- step 3: "Mix sample by sample."
+-- R5.12: step 3
 unfoldable pub mixLaid : Model → ℕ → List Float → List Float
 mixLaid m f work =
     let r = rowsOf m f work in
     laid (r .input) (r .reads) (mixedRows (m .lines) f (m .factor) (r .reads)) (r .output) (r .rings)
 
--- step 4 of line i, "bands and input, no put"; step 5, the output and the allpass rings
+-- R5.11 to R5.14: the work memory after a job. Line i leaves step 4, the output step 5 and the allpass rings
 abbrev pub jobWork : Model → Memory → Job → List Float
 jobWork m w (readJob i) = readWork m (w .unit) i (w .store) (w .work)
 jobWork m w mixJob = mixLaid m (w .unit .settings .frame) (w .work)
 jobWork m w (lineJob i) = lineLaid m (w .unit .settings .frame) i (w .unit .held .tail) (w .unit .filters) true (w .work)
 jobWork m w outputJob = outputLaid m (w .unit .settings .frame) (w .unit .cursors .passes) (w .unit .filters) true (w .work)
 
--- the three filters of line i, and the tone's three
+-- R5.13, R5.14: the filters after a job, which are new for line i its three, and for the output the tone's three
 abbrev pub jobFilters : Model → Memory → Job → List Filter
 jobFilters m w (readJob i) = w .unit .filters
 jobFilters m w mixJob = w .unit .filters
 jobFilters m w (lineJob i) = lineEnds m (w .unit .settings .frame) i (w .unit .filters) true (w .work)
 jobFilters m w outputJob = outputEnds m (w .unit .settings .frame) (w .unit .cursors .passes) (w .unit .filters) true (w .work)
 
--- the unit with the job of mark k done, and its filters then
+-- R5.16, R5.17: the unit with the job of mark k done, and its filters then
 abbrev pub unitMarked : UnitState → ℕ → List Filter → UnitState
 unitMarked u k filters = record {
   settings = u .settings;
@@ -135,21 +134,21 @@ memoryDone m w j = record { unit = unitMarked (w .unit) (markOf m j) (jobFilters
 abbrev pub done : Model → Memory → Job → Ending
 done m w j = quietly (jobDue m w j) (memoryDone m w j) w
 
--- ---- close: "puts, writes the output, moves the cursors, sets the count; nothing before it does any of these"
+-- ---- close (R5.20 to R5.27): what is put, handed out, moved and counted is so here and not before (R5.9)
 
--- after a frame that is accepted, with the filters that its jobs left
+-- R5.23, R5.25: after a frame that is accepted, with the filters that its jobs left
 abbrev pub unitClosed : Model → UnitState → UnitState
 unitClosed m u = record { settings = u .settings; cursors = moved m u; count = u .held .next; filters = u .filters; held = noFrame m }
 
--- "state from before the open"
+-- R5.26: the unit as it was before the open
 abbrev pub unitShut : Model → UnitState → UnitState
 unitShut m u = record { settings = u .settings; cursors = u .cursors; count = u .count; filters = u .held .before; held = noFrame m }
 
--- and the work memory "all +0"
+-- R5.27: and the work memory +0 throughout
 abbrev pub memoryShut : Model → Memory → Memory
 memoryShut m w = record { unit = unitShut m (w .unit); store = w .store; work = cleared (w .work) }
 
--- the rows of an open frame kept and handed out
+-- R5.22, R5.24, R5.25: the rows of an open frame kept and handed out
 abbrev pub keptRows : Model → Memory → Rows → Ending
 keptRows m w r =
     let u = w .unit in
@@ -164,7 +163,7 @@ keptRows m w r =
       output = r .output;
     }
 
--- what they come to at the close: 9 unless all of them are finite
+-- R5.21: what they come to at the close, 9 unless all of them are finite
 unfoldable pub ended : Model → Memory → Rows → List Float → Ending
 ended m w r output = cond (rowsFinite (w .unit .filters) r) (keptRows m w r) (refused NotFinite (memoryShut m w) output)
 
@@ -174,6 +173,6 @@ closed m w output =
     let due = judgedClose m u (length (w .store)) (length (w .work)) (length output) in
     accept due (ended m w (rowsOf m (u .settings .frame) (w .work)) output) (refused due w output)
 
--- "Abandon: any open frame; state from before the open, work all +0."
+-- R5.28: abandon
 abbrev pub abandoned : Model → Memory → Ending
 abandoned m w = quietly (judgedAbandon m (w .unit) (length (w .work))) (memoryShut m w) w

@@ -45,7 +45,7 @@ unfoldable pub answerOf : Model → Memory → Request → Answer
 answerOf m w (fresh rate frame s) = begun m rate frame (lent s (w .store)) .answer
 answerOf m w (ask c s k) = answer m (seen w s k) c
 
--- an answer of 1 to 8
+-- R2.32: an answer of 1 to 8
 abbrev pub refusal : Answer → Bool
 refusal a = leb 1 (numberOf a) && leb (numberOf a) 8
 

@@ -1,4 +1,4 @@
--- Fresh, reset, and a whole frame.
+-- Fresh, reset, and a whole frame (R4).
 use Prim.Native.Nat.{ℕ}
 use mathlib.Core.Bool.{Bool, true, false, cond}
 use mathlib.Core.List.{List, []}
@@ -23,7 +23,7 @@ use Rattle.stages.specs.Frame.{Frame, newFilters, frameOf}
 use Rattle.stages.specs.Settle.{frameFinite, settled, moved}
 use Rattle.machine.specs.Ending.{Memory, Ending, refused, quietly, cleared}
 
--- fresh: "store all +0, cursors, count and filters zero, no frame open; refused, it gives such a state with rate 8,000 and F 4"
+-- R4.24: fresh; R2.33: the state of a refused one
 abbrev pub begun : Model → ℕ → ℕ → List Float → Ending
 begun m rate frame store =
     quietly (judgedFresh m rate frame (length store))
@@ -34,7 +34,7 @@ begun m rate frame store =
 abbrev pub counted : UnitState → ℤ → UnitState
 counted u count = record { settings = u .settings; cursors = u .cursors; count = count; filters = u .filters; held = u .held }
 
--- reset: "all rings +0, count 0; cursors and filters stay as they are"
+-- R4.25, R4.26: reset
 abbrev pub silenced : Model → Memory → Ending
 silenced m w =
     quietly (judgedReset m (w .unit) (length (w .store)))
@@ -51,17 +51,17 @@ abbrev pub isTail : Play → Bool
 isTail (apply t coefficients input) = false
 isTail tail = true
 
--- the filters that it begins with: "All 51 filters get the given coefficients and zero history."; "Tail: the same with kept filters"
+-- R4.3, R4.4: the filters that it begins with
 abbrev pub filtersFor : Model → UnitState → Play → List Filter
 filtersFor m u (apply t coefficients input) = filtersOf (filtersLen m) coefficients
 filtersFor m u tail = u .filters
 
--- its input row: a tail has none, and the row is all +0
+-- R5.8: its input row. A tail has none, and the row is +0 throughout
 abbrev pub inputFor : UnitState → Play → List Float
 inputFor u (apply t coefficients input) = input
 inputFor u tail = replicate (u .settings .frame) +0
 
--- the count that it sets: step 6's, or "count falls by one"
+-- R4.13: the count that it sets, step 6
 abbrev pub countFor : UnitState → Play → ℤ
 countFor u (apply t coefficients input) = pos (tailCount t (u .settings .rate) (u .settings .frame))
 countFor u tail = fallen (u .count)
@@ -70,18 +70,18 @@ countFor u tail = fallen (u .count)
 abbrev pub frameFor : Model → UnitState → Play → List Float → Frame
 frameFor m u p store = frameOf m (isTail p) u (filtersFor m u p) (inputFor u p) store
 
--- what is due of the whole call before its frame is judged
+-- R2.22, R2.23: what is due of the whole call before its frame is judged
 abbrev pub wholeDue : Model → UnitState → Play → ℕ → ℕ → ℕ → Answer
 wholeDue m u (apply t coefficients input) store work output = judgedApply m u t coefficients input store work output
 wholeDue m u tail store work output = judgedTail m u store work output
 
 -- ---- apply and tail
 
--- the unit after an accepted frame: its cursors moved, its filters those of the frame, its count set
+-- R4.20, R4.21: the unit after an accepted frame, its cursors moved, its filters those of the frame, its count set
 abbrev pub movedOn : Model → UnitState → List Filter → ℤ → UnitState
 movedOn m u filters count = record { settings = u .settings; cursors = moved m u; count = count; filters = filters; held = u .held }
 
--- a frame r kept and handed out, and the work memory cleared: "An accepted whole call .. leaves work all +0 too."
+-- R4.17 to R4.23: a frame r kept and handed out, and the work memory cleared
 abbrev pub kept : Model → Memory → Frame → ℤ → Ending
 kept m w r count = record {
   answer = Accepted;
@@ -94,8 +94,7 @@ kept m w r count = record {
 abbrev pub wiped : Memory → Memory
 wiped w = record { unit = w .unit; store = w .store; work = cleared (w .work) }
 
--- what a frame r comes to that nothing else refuses: 9 unless all of it is finite, "state from before ..; store and output unchanged; work all
--- +0"
+-- R4.14, R4.15: what a frame r comes to that nothing else refuses, 9 unless all of it is finite
 unfoldable pub played : Model → Memory → Frame → ℤ → List Float → Ending
 played m w r count output = cond (frameFinite r) (kept m w r count) (refused NotFinite (wiped w) output)
 
