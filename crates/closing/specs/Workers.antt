@@ -14,11 +14,11 @@ use Rattle.unit.specs.Outcome.{outcome}
 use Rattle.frame.specs.declared.Stepped.{Stepped}
 use Rattle.machine.specs.Jobs.{unitShut}
 
--- the unit with no frame open
+-- R5.25, R5.26: the unit with no frame open
 abbrev pub idle : UnitState → RingCursors → ℤ → List Filter → UnitState
 idle u cursors count filters = record { settings = u .settings; cursors = cursors; count = count; filters = filters; held = noFrame wall }
 
--- 9 unless all that a frame came to is finite
+-- R5.23 to R5.26: 9 unless all that a frame came to is finite
 abbrev pub concluded : UnitState → Stepped → Outcome
 concluded u x =
     cond (x .ok)

@@ -9,6 +9,6 @@ use Rattle.unit.specs.Sizes.{lengthsOf}
 use Rattle.stages.specs.Frame.{passesIn}
 use Rattle.machine.specs.Jobs.{openLaid}
 
--- all but the input: the allpass rings as they are in the store, and else +0
+-- R5.8: all but the input, the allpass rings as they are in the store, and else +0
 abbrev pub silentLaid : ℕ → List Float → List Float
 silentLaid f store = openLaid wall f (replicate f +0) (passesIn (lengthsOf wall f) store)

@@ -78,12 +78,12 @@ as-call s p due r count store work work₀ output x store′ work′ output′ t
     ∙ played-as-long wall (lend s store work₀) (frameFor wall (ofState s) p store) (countFor (ofState s) p) output work el)
     h)
 
--- "A tail adds no input"
+-- R4.9: a tail adds nothing
 pub no-input : (u : UnitState) (fs : List Filter) (input input′ store : List Float) → frameOf wall true u fs input store ≡ frameOf wall true u fs input′ store
 unfolding frameFrom lineRows
 no-input u fs input input′ store = refl
 
--- "255 coefficients .. five per filter"
+-- R1.16: five coefficients a filter
 pub filters-given : (coefficients : List Float) (fs : List Filter) → length coefficients ≡ 255
     → fs ≡ cond (eqb (length coefficients) 255) (filtersOf 51 coefficients) (replicate 51 blank) → fs ≡ filtersOf 51 coefficients
 filters-given coefficients fs h e = rw (eq-eqb (length coefficients) 255 h) at e

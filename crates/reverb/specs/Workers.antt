@@ -23,7 +23,7 @@ abbrev pub stepped : UnitState → Stepped → ℤ → UnitState
 stepped u x count =
     record { settings = u .settings; cursors = record { lines = x .lines; passes = x .passes }; count = count; filters = x .filters; held = u .held }
 
--- 9 unless all of it is finite
+-- R4.15, R4.21, R4.22: 9 unless all of it is finite
 abbrev pub concluded : UnitState → Stepped → ℤ → Outcome
 concluded u x count = cond (x .ok) (outcome Accepted (stepped u x count) (verdictOf count)) (outcome NotFinite u TailComplete)
 
