@@ -1,4 +1,4 @@
--- What C is answered: structs of numbers, since C has no enum that carries an index.
+-- What C is answered (R2.38): structs of numbers, since C has no enum that carries an index.
 use mathlib.Core.Bool.{Bool, true, false}
 use lib.Ieee.{Float}
 use Rattle.samples.specs.Answers.{numberOf, indexOf}
@@ -20,7 +20,7 @@ abbrev pub remains : AudioEffectState → Bool
 remains TailRemaining = true
 remains TailComplete = false
 
--- a call of the unit: "Numbers a call may answer with", "8 .. with the index of the first one", the verdict, and the state
+-- R2.38: a call of the unit, by its number, the position with 8, the verdict and the state
 unfoldable pub faced : Outcome → HallAnswer
 faced o = record {
   number = numberOf (o .answer);

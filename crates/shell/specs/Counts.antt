@@ -31,10 +31,10 @@ unfoldable pub any : UnitState → List Input → Bool
 any u [] = false
 any u (x ∷ xs) = accepted (frameEnds u x .answer) || any (frameEnds u x .memory .unit) xs
 
--- "as many tail calls as the last count read (76 if any frame was accepted, else none)"
+-- R9.12: 76 tail calls after any frame that was accepted, and otherwise none
 abbrev pub SeventySix : Type 0
 SeventySix = (xs : List Input) → let u = freshUnit wall rate frame in calls (last u xs .count) ≡ cond (any u xs) 76 0
 
--- the memory is what a unit of the program's frame takes
+-- R9.2: the memory is what a unit of the program's frame takes
 abbrev pub Room : Type 0
 Room = (storeLen wall (lengthsOf wall frame) ≡ storeFloats) × (workLen wall frame ≡ workFloats)

@@ -1,4 +1,4 @@
--- One frame of document 01's program: from the bytes read to the bytes written.
+-- One frame of the program: from the bytes read to the bytes written (R9.4 to R9.9).
 use mathlib.Core.List.{List}
 use Prim.Native.Nat.{ℕ}
 use lib.Ieee.{Float}
@@ -13,11 +13,11 @@ use Rattle.machine.specs.Ending.{Ending}
 use Rattle.machine.specs.Whole.{Play, apply, tail, wholeDue, atOnce}
 use Rattle.shell.specs.Settings.{frame, storeFloats, workFloats, times, coefficients}
 
--- "It reads little-endian binary32 .., pads the last frame with +0, ignores 1 to 3 odd bytes": the samples of a frame's bytes
+-- R9.4, R9.6, R9.7: the samples of a frame's bytes
 abbrev pub heard : List ℕ → List Float
 heard bytes = decoded frame bytes
 
--- a frame of input
+-- R9.5: a frame of input
 abbrev pub inputPlay : List ℕ → Play
 inputPlay bytes = apply times coefficients (heard bytes)
 
@@ -38,6 +38,6 @@ inputEnds u bytes store work = playEnds u (inputPlay bytes) store work
 abbrev pub tailEnds : UnitState → List Float → List Float → Ending
 tailEnds u store work = playEnds u tail store work
 
--- "writes each frame"; "A refused frame is written as 128 zeros": 512 bytes, each 0
+-- R9.8, R9.9: the bytes written, of a refused frame 512 times 0
 unfoldable pub said : Ending → List ℕ
 said e = accept (e .answer) (encoded (e .output)) (replicate 512 0)

@@ -1,4 +1,4 @@
--- Which frames of input are refused before any sound is made: "8: an input sample isn't finite .. with the index of the first one".
+-- R9.10: which frames the program's unit refuses.
 use mathlib.Core.Path.{_≡_}
 use mathlib.Core.List.{List, [], _∷_}
 use Prim.Native.Nat.{ℕ, _%_}
@@ -29,19 +29,19 @@ through u [] = u
 through u (input bytes store work ∷ ps) = through (inputEnds u bytes store work .memory .unit) ps
 through u (tail store work ∷ ps) = through (tailEnds u store work .memory .unit) ps
 
--- from a start on, whatever was played: 8 is all that may be due of a frame of input, and nothing is due of a tail. Then 9 is left
+-- R9.10: from a start on, whatever was played, 8 is all that may be due of a frame of input, and nothing is due of a tail. Then 9 is left
 abbrev pub OnlySamples : Type 0
 OnlySamples =
     (ps : List Passage) (bytes : List ℕ) → let u = through (freshUnit wall rate frame) ps in
     (inputDue u bytes ≡ badInput (firstBad (heard bytes))) × (tailDue u ≡ Accepted)
 
--- on the program's memory a frame is answered what is due of it, and else 9 or 0
+-- R9.10: on the program's memory a frame is answered what is due of it, and else 9 or 0
 abbrev pub DueOrNine : Type 0
 DueOrNine =
     (u : UnitState) (bytes : List ℕ) (store work : List Float) → length store ≡ storeFloats → length work ≡ workFloats
     → (inputEnds u bytes store work .answer ≡ orElse (inputDue u bytes) (nineOf (frameFor wall u (inputPlay bytes) store)))
     × (tailEnds u store work .answer ≡ orElse (tailDue u) (nineOf (frameFor wall u Play.tail store)))
 
--- without the sign's bit, a NaN's pattern and an infinity's are 0x7f80_0000 and above
+-- R3.4: without the sign's bit, a NaN's pattern and an infinity's are 0x7f80_0000 and above
 abbrev pub Patterns : Type 0
 Patterns = (n : ℕ) → finite (ofBits binary32 n) ≡ ltb (n % 0x8000_0000) 0x7f80_0000

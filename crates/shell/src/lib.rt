@@ -1,5 +1,4 @@
-// Document 01's program between its reads and its writes: what it is set to, and one frame, from bytes
-// to bytes.
+// The program between its reads and its writes: what it is set to, and one frame, from bytes to bytes.
 //
 // Its contracts cite `specs/`: how a frame of input and a frame of the tail end, the bytes written, and
 // the settings.

@@ -1,5 +1,5 @@
-// What document 01's program is set to: its times and filters, its unit at the start, and how many tail
-// frames it plays.
+// What the program is set to (R9.1 to R9.3): its times and filters, its unit at the start, and how many
+// tail frames it plays.
 use bands::Times;
 use samples::Frames;
 use samples::and;

@@ -1,5 +1,5 @@
-// Document 01's program: reads little-endian binary32 from standard input and writes what the wall
-// unit makes of it, frame by frame, and then the tail.
+// The program (R9): takes floats from standard input, the lowest byte first, and writes what the wall
+// unit makes of them, frame by frame, and then the tail.
 //
 // What lies between a read and a write is `shell`'s, with a contract. No contract can say which
 // bytes are read or written.
