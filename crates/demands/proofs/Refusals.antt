@@ -1,4 +1,4 @@
--- "A refusal changes nothing": where a call's own contract allows a refusal, each lent slice holds at exit what it held at entry, and the
+-- R8.4: where a call's own contract allows a refusal, each lent slice holds at exit what it held at entry, and the
 -- cursors given come back. A theorem is named after the crate, the function and what stays. Assumes nothing.
 use Prim.Native.Nat.{_+_}
 use mathlib.Core.Path.{_≡_, refl, sym, ap, _∙_}

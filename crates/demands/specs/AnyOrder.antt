@@ -1,4 +1,4 @@
--- Demand 3: a frame done as jobs, in any order that the unit allows and with any refused calls in between, is the frame of one whole call.
+-- Demand 3 (R8.22 to R8.26): a frame done as jobs, however ordered and with any refused calls in between, is the frame of one whole call.
 use Prim.Native.Nat.{ℕ, zero, suc, _+_}
 use mathlib.Core.Path.{_≡_}
 use mathlib.Core.Bool.{true}
@@ -17,13 +17,13 @@ use Rattle.machine.specs.Jobs.{Job, readJob, mixJob, lineJob, outputJob, closed
 use Rattle.machine.specs.Calls.{job, start, answer, after}
 use Rattle.machine.specs.Requests.{Request, ask, own, answerOf, request, requests, refusal}
 
--- ---- what may come between open and close: "out of turn, wrong line, wrong lengths, foreign slices, whole calls and resets"
+-- ---- R8.24: what may come between open and close
 
 -- a job on the unit's own memory
 pub data OwnJob : Request → Type 0 where
   own-job : (j : Job) → OwnJob (ask (job j) own own)
 
--- each is a job on own memory, whatever it is answered, or any call on any slices that is refused. A job on a foreign slice that is
+-- R8.23, R8.24: each is a job on own memory, whatever it is answered, or any call on any slices that is refused. A job on a foreign slice that is
 -- accepted would leave its rows there, and a close or an abandon that is accepted ends the frame
 unfoldable pub Between : Model → Memory → List Request → Type 0
 Between m w [] = Unit {0}
@@ -49,15 +49,15 @@ pub record Working (m : Model) (w : Memory) (p : Play) (rs : List Request) : Typ
   pub opens : answer m w (start p) ≡ Accepted
   pub between : Between m (after m w (start p)) rs
 
--- a close on own store and work and any output, if it is accepted, ends the frame as the whole call on the opening's unit and memory would
+-- R8.22: a close on own store and work and any output, if it is accepted, ends the frame as the whole call on the opening's unit and memory would
 -- have: the same answer, verdict, unit, store, work memory and output
 abbrev pub AnyOrder : Type 0
 AnyOrder =
     (m : Model) (w : Memory) (p : Play) (rs : List Request) → Working m w p rs → (output : List Float)
     → closed m (worked m w p rs) output .answer ≡ Accepted → closed m (worked m w p rs) output ≡ atOnce m w p output
 
--- with all marks set, and an output of its length, the close is answered 0 or 9, as the whole call is; and after a 9 all is as it was before
--- the open, the work memory all +0
+-- R8.25, R8.26: with all marks set, and an output of its length, the close is answered 0 or 9, as the whole call is; and after a 9 all is as
+-- it was before the open, the work memory +0 throughout
 pub record Exactly (m : Model) (w : Memory) (p : Play) (rs : List Request) (output : List Float) : Type 0 where
   pub same : closed m (worked m w p rs) output ≡ atOnce m w p output
   pub answered : (atOnce m w p output .answer ≡ Accepted) ⊎ (atOnce m w p output .answer ≡ NotFinite)
@@ -81,7 +81,7 @@ inOrder m =
     jobs readJob 0 (m .lines)
     ++ (ask (job mixJob) own own ∷ (jobs lineJob 0 (m .lines) ++ (ask (job outputJob) own own ∷ [])))
 
--- after an accepted open they are requests of that kind, and leave all marks set
+-- R5.19: after an accepted open they are requests of that kind, and leave all marks set
 abbrev pub InOrder : Type 0
 InOrder =
     (m : Model) (w : Memory) (p : Play) → Begins m (w .unit) → answer m w (start p) ≡ Accepted

@@ -1,4 +1,4 @@
--- Demand 1: what is kept is finite.
+-- Demand 1: what is kept is finite (R8.7 to R8.10).
 use Prim.Native.Nat.{ℕ}
 use mathlib.Core.Path.{_≡_}
 use mathlib.Core.Bool.{true, cond}
@@ -24,8 +24,8 @@ pub record Kept (w : Memory) : Type 0 where
   pub filters : filtersFinite (keptFilters (w .unit)) ≡ true
   pub before : filtersFinite (w .unit .held .before) ≡ true
 
--- "From an accepted fresh on, every kept number is finite whenever no frame is open"; and while one is, so are the store and the filters from
--- before it. The premise "while only the unit's own calls write its state and store" is that what happens is a list of events
+-- R8.9: from an accepted fresh on, with no frame open; R8.10: and while one is, the store and the filters from before it. The premise R8.8 is
+-- that what happens is a list of events
 abbrev pub KeptFinite : Type 0
 KeptFinite =
     (m : Model) (w : Memory) (rate frame : ℕ) → judgedFresh m rate frame (length (w .store)) ≡ Accepted

@@ -1,5 +1,4 @@
--- "A contract determines the result and every lent float afterwards, for all arguments, refusals too. Show that two results allowed by it
--- are equal." A contract is what a function may leave: `post κs a x s` says that it allows, of the arguments a, the result x and the lent
+-- R8.28: a contract leaves one result only, and one value for every lent float. A contract is what a function may leave: `post κs a x s` says that it allows, of the arguments a, the result x and the lent
 -- slices s at exit.
 use mathlib.Core.Path.{_≡_}
 use mathlib.Core.Bool.{false}
@@ -45,7 +44,7 @@ module _ (n : ℕ) (ps : List (Kinds'.PK n)) (r : Kinds'.RK n) (post : Kinds'.Ou
       (κs : Lifetimes.Lfts n) (a : Kinds'.Dens κs ps) (x y : Result κs) (s t : Exits κs) → post κs a x s → post κs a y t
       → (x ≡ y) × (first κs s ≡ first κs t) × (second κs s ≡ second κs t) × (third κs s ≡ third κs t)
 
-  -- "A refusal changes nothing": where the answer is a refusal, `left` at exit is what was `given`
+  -- R8.4: where the answer is a refusal, `left` at exit is what was `given`
   abbrev pub Unchanged : {A : Type 0} → ((κs : Lifetimes.Lfts n) → Result κs → Answer)
       → ((κs : Lifetimes.Lfts n) → Result κs → Exits κs → A) → ((κs : Lifetimes.Lfts n) → Kinds'.Dens κs ps → A) → Type 0
   Unchanged answer left given =

@@ -1,4 +1,4 @@
--- "Checked examples, P to be proved": the P set as one table.
+-- The checked examples that are proved, as one statement (R9.19 to R9.26).
 use Prim.Native.Nat.{ℕ}
 use mathlib.Core.Path.{_≡_}
 use mathlib.Core.Bool.{true, false}
@@ -50,23 +50,23 @@ abbrev pub turn : Float → List ℕ → Turn
 turn v ns = record { lent = replicate 3 v; put = floats ns }
 
 pub record Examples : Type 0 where
-  -- "P1 signs: (3,3) +, (1,3) -, (15,7) -."
+  -- R9.19: signs of the mix
   pub p1 : (minus 3 3 ≡ false) × (minus 1 3 ≡ true) × (minus 15 7 ≡ true)
-  -- "P2 mix of 16 and fifteen zeros: all 4."
+  -- R9.20: the mix of a single 16
   pub p2 : mixed 16 quarter (floats (16 ∷ replicate 15 0)) ≡ floats (replicate 16 4)
-  -- "P3 powers: (900,2) 1,024; (907,7) 343; (908,7) 2,401; (0,p) 1; (3,2) 4; (2,3) 3; (900,53) 2,809."
+  -- R9.21: nearest powers
   pub p3 : (nearestPower 2 900 ≡ 1024) × (nearestPower 7 907 ≡ 343) × (nearestPower 7 908 ≡ 2401) × ((p : ℕ) → nearestPower p 0 ≡ 1)
       × (nearestPower 2 3 ≡ 4) × (nearestPower 3 2 ≡ 3) × (nearestPower 53 900 ≡ 2809)
-  -- "P4 counts: 2.0, 48,000, 1,024 gives 188; 0.5, 44,100, 512 gives 88; all 0 gives 0, TailComplete; 100, 192,000, 4 gives 9,600,000."
+  -- R9.22: counts
   pub p4 : (countOf (thrice f2) 48000 1024 ≡ 188) × (countOf (thrice f0·5) 44100 512 ≡ 88) × (countOf (thrice +0) 48000 1024 ≡ 0)
       × (verdictOf (pos 0) ≡ TailComplete) × (countOf (thrice f100) 192000 4 ≡ 9600000)
-  -- "P5 b0 1, a1 0.5, rest 0, input 1, 0, 0: 1, -0.5, 0.25."
+  -- R9.23: a run of a filter
   pub p5 : runOut (fromCoefficients f0·5 +0 f1 +0 +0) (f1 ∷ +0 ∷ +0 ∷ []) ≡ f1 ∷ -f0·5 ∷ f0·25 ∷ []
-  -- "P6 L 5, n 3, puts 1 to 9: gets 0 0 0, 0 0 1, 2 3 4.", whatever the memory lent held
+  -- R9.24: turns of a ring, whatever the memory lent held
   pub p6 : (v w : Float)
       → gets (freshRing (replicate 5 v)) (freshAnswer 5 .cursors) (turn w (1 ∷ 2 ∷ 3 ∷ []) ∷ turn w (4 ∷ 5 ∷ 6 ∷ []) ∷ turn w (7 ∷ 8 ∷ 9 ∷ []) ∷ [])
       ≡ floats (0 ∷ 0 ∷ 0 ∷ []) ∷ floats (0 ∷ 0 ∷ 1 ∷ []) ∷ floats (2 ∷ 3 ∷ 4 ∷ []) ∷ []
-  -- "P7 deinterleave 1 2 3 4 by two: 1 3, 2 4."
+  -- R9.25: deinterleave
   pub p7 : deinterleaved 2 2 (floats (1 ∷ 2 ∷ 3 ∷ 4 ∷ [])) ≡ floats (1 ∷ 3 ∷ 2 ∷ 4 ∷ [])
-  -- "P8 downmix 1, 2, 3, 6: 3."
+  -- R9.26: downmix
   pub p8 : downmixed 4 1 (floats (1 ∷ 2 ∷ 3 ∷ 6 ∷ [])) ≡ floats (3 ∷ [])

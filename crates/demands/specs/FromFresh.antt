@@ -47,19 +47,19 @@ pub data FromFresh : Memory → Type 0 where
   from-fresh : (w : Memory) (rate frame : ℕ) → judgedFresh wall rate frame (length (w .store)) ≡ Accepted → (es : List Event)
       → FromFresh (run wall (afresh wall w rate frame) es)
 
--- demand 3: an open that is accepted, any own jobs or refused calls, and a close that is accepted are the whole call
+-- R8.22: an open that is accepted, any own jobs or refused calls, and a close that is accepted are the whole call
 abbrev pub AnyOrderFromFresh : Type 0
 AnyOrderFromFresh =
     (v : Memory) → FromFresh v → (p : Play) (rs : List Request) → answer wall v (start p) ≡ Accepted → Between wall (after wall v (start p)) rs
     → (output : List Float) → closed wall (worked wall v p rs) output .answer ≡ Accepted → closed wall (worked wall v p rs) output ≡ atOnce wall v p output
 
--- and with all marks set the close is refused exactly when the whole call would be
+-- R8.25, R8.26: and with all marks set the close is refused exactly when the whole call would be
 abbrev pub CloseFromFresh : Type 0
 CloseFromFresh =
     (v : Memory) → FromFresh v → (p : Play) (rs : List Request) → answer wall v (start p) ≡ Accepted → Between wall (after wall v (start p)) rs
     → allDone (worked wall v p rs .unit .held .marks) ≡ true → (output : List Float) → length output ≡ v .unit .settings .frame → Exactly wall v p rs output
 
--- demand 2: what a line hands out after a reset that was accepted. From fresh on alone it is `line-law`
+-- R8.18, R8.19: what a line hands out after a reset that was accepted. From fresh on alone it is `line-law`
 abbrev pub LineLawFromFresh : Type 0
 LineLawFromFresh =
     (v : Memory) → FromFresh v → answer wall v reset ≡ Accepted → let w = after wall v reset in
@@ -67,7 +67,7 @@ LineLawFromFresh =
     → let a = account wall i w (record { out = []; given = []; waiting = [] }) rs in
     a .out ≡ take (length (a .given)) (replicate (getD (lengths wall (w .unit)) i 0) +0 ++ a .given)
 
--- ---- demand 1: a frame that fails or is abandoned "gives back the state from before it opened"
+-- ---- R8.6: what a frame that fails or is abandoned gives back
 
 -- after an open come jobs on any store and work memory, and calls that are refused
 pub data AnyJob : Request → Type 0 where

@@ -1,4 +1,4 @@
--- Demand 2: "A line of length L hands out what was put L samples earlier."
+-- Demand 2: what a line hands out (R8.18 to R8.21).
 use Prim.Native.Nat.{ℕ, _<_}
 use mathlib.Core.Path.{_≡_}
 use mathlib.Core.Bool.{true, cond}
@@ -32,7 +32,7 @@ pub record Account : Type 0 where
   pub given : List Float
   pub waiting : List Float
 
--- an accepted frame hands out the row read and is given the row put
+-- R8.20: an accepted frame hands out the row read and is given the row put
 abbrev pub turned : Account → List Float → List Float → Account
 turned a read put = record { out = a .out ++ read; given = a .given ++ put; waiting = a .waiting }
 
@@ -90,14 +90,14 @@ pub data Silent (m : Model) : Memory → Type 0 where
   freshly : (w : Memory) (rate frame : ℕ) → judgedFresh m rate frame (length (w .store)) ≡ Accepted → Silent m (afresh m w rate frame)
   by-reset : (w : Memory) → Sized m (w .unit) → answer m w reset ≡ Accepted → Together (w .unit) → Silent m (after m w reset)
 
--- sample t of what line i hands out is sample t - L of what it was given, or +0 where t < L
+-- R8.18, R8.19: sample t of what line i hands out is sample t - L of what it was given, or +0 where t < L
 abbrev pub LineLaw : Type 0
 LineLaw =
     (m : Model) (w : Memory) → Silent m w → (i : ℕ) → i < m .lines → (rs : List Request) → AllPlay m w rs
     → let a = account m i w (record { out = []; given = []; waiting = [] }) rs in
     a .out ≡ take (length (a .given)) (replicate (getD (lengths m (w .unit)) i 0) +0 ++ a .given)
 
--- in every state that calls lead to from an accepted fresh
+-- R8.21: in every state that calls lead to from an accepted fresh
 abbrev pub CursorsTogether : Type 0
 CursorsTogether =
     (m : Model) (w : Memory) (rate frame : ℕ) → judgedFresh m rate frame (length (w .store)) ≡ Accepted

@@ -1,5 +1,5 @@
--- Demand 1: "A refusal changes nothing; only a failed or abandoned frame also clears its work memory and gives back the state from before it
--- opened." The calls' contracts cite the machine, so what holds of its endings holds of what the calls give and leave.
+-- Demand 1: what a refusal leaves (R8.4 to R8.6). The calls' contracts cite the machine, so what holds of its endings holds of what the calls
+-- give and leave.
 use Prim.Native.Nat.{ℕ}
 use mathlib.Core.Path.{_≡_}
 use mathlib.Core.Bool.{true, cond}
@@ -23,24 +23,24 @@ outputOf (job j) = []
 outputOf (close output) = output
 outputOf abandon = []
 
--- answered 1 to 8, a call leaves the unit, the memory and the output as they were
+-- R8.4: answered 1 to 8, a call leaves the unit, the memory and the output as they were
 abbrev pub RefusalChangesNothing : Type 0
 RefusalChangesNothing = (m : Model) (w : Memory) (c : Call) → refusal (answer m w c) ≡ true → ending m w c ≡ refused (answer m w c) w (outputOf c)
 
--- fresh is given no state: refused, it leaves the store
+-- R2.33: fresh is given no state. Refused, it leaves the store
 abbrev pub RefusedFresh : Type 0
 RefusedFresh =
     (m : Model) (rate frame : ℕ) (store : List Float) → let e = begun m rate frame store in
     refusal (e .answer) ≡ true → e ≡ refused (e .answer) (record { unit = freshUnit m 8000 4; store = store; work = [] }) []
 
--- the work memory cleared, and the state from before the frame opened where one is open
+-- R8.5, R8.6: the work memory cleared, and where a frame is open the state from before it
 abbrev pub givenBack : Model → Memory → Memory
 givenBack m w = cond (w .unit .held .busy) (memoryShut m w) (wiped w)
 
--- answered 9
+-- R8.5, R8.6: answered 9
 abbrev pub FailureGivesBack : Type 0
 FailureGivesBack = (m : Model) (w : Memory) (c : Call) → answer m w c ≡ NotFinite → ending m w c ≡ refused NotFinite (givenBack m w) (outputOf c)
 
--- an abandon that is accepted
+-- R8.5, R8.6: an abandon that is accepted
 abbrev pub AbandonGivesBack : Type 0
 AbandonGivesBack = (m : Model) (w : Memory) → answer m w abandon ≡ Accepted → ending m w abandon .memory ≡ givenBack m w

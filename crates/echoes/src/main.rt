@@ -1,5 +1,5 @@
-// Document 01's examples of frames, through the unit's calls: which frames a fresh unit takes, and
-// where the first echoes of a click fall.
+// Examples of frames, through the unit's calls: which frames a fresh unit takes (R9.28), and where the
+// first echoes of a click fall (R9.27).
 use bands::Times;
 use libc::STDOUT_FILENO;
 use unit::State;
