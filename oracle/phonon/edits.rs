@@ -1,4 +1,4 @@
-// Every edit that is made to the published Rust, and the sentence of document 01 that asks for it.
+// Every edit that is made to the published Rust, and the rule that asks for it.
 // Private items aren't edited to be visible: what has to be seen is read by the modules `seen`, which
 // stand below the published ones and so see what is private in them.
 
@@ -12,12 +12,9 @@ pub struct Edit {
     pub new: &'static str,
 }
 
-const COEFFICIENTS: &str = "255 coefficients come from the host, five per filter in the order of \
-     `IIR::new_from_coefficients` (a1, a2, b0, b1, b2): line 0 bands 0 to 2, and so on to line 15, \
-     then tone bands 0 to 2. The oracle is the repository's code with a test-only entry that sets \
-     these filters";
+const COEFFICIENTS: &str = "R1.16, R8.12: the Rust is compared with its filters set to the host's 255 coefficients";
 
-const NO_DESIGN: &str = "Not carried: shelf and peaking design";
+const NO_DESIGN: &str = "R1.16: the host designs the filters";
 
 pub const EDITS: &[Edit] = &[
     Edit {

@@ -1,4 +1,4 @@
-//! What a request of the unit must give: the number by document 01's table, the sound by the published Rust. A whole
+//! What a request of the unit must give: the number by the rules, the sound by the published Rust. A whole
 //! frame is the Rust's own; a job is made of the Rust's own parts, on the state, store and work that it is handed.
 
 use crate::law;
@@ -56,8 +56,7 @@ fn whole(
     (reply, next)
 }
 
-/// > Open (apply or tail; input, times, coefficients given here) sets every work float: input, the four allpass rings
-/// > copied, else +0.
+/// R5.6, R5.8: an open. All of the work memory is set.
 fn opened(world: &World, tail: bool, next_count: i32) -> World {
     let mut next = world.clone();
     let frame = world.state.frame;
@@ -111,7 +110,7 @@ fn shut(state: &mut State) {
     };
 }
 
-/// > Abandon: any open frame; state from before the open, work all +0.
+/// R5.28: an abandon.
 fn given_up(world: &World) -> World {
     let mut next = world.clone();
     shut(&mut next.state);
@@ -119,7 +118,7 @@ fn given_up(world: &World) -> World {
     next
 }
 
-/// > Close: after all 34; puts, writes the output, moves the cursors, sets the count
+/// R5.21 to R5.27: a close.
 fn closed(world: &World) -> (Reply, World) {
     let mut next = given_up(world);
     let (state, frame) = (&world.state, world.state.frame);
@@ -173,9 +172,7 @@ fn mixed_row(frame: usize, line: usize) -> Range<usize> {
     (17 + line) * frame..(18 + line) * frame
 }
 
-/// > After an accepted job its own rows (read i; all mixed; mixed i; output and work rings) and its filters hold
-/// > exactly what steps 2 to 5 give from the state, store and work handed to that job; every other work float and, its
-/// > mark aside, the rest of the state are unchanged.
+/// R5.10 to R5.17: an accepted job, made of the state, store and work memory that it is handed. All else stays.
 fn done(world: &World, request: Request) -> World {
     let mut next = world.clone();
     let mark = match request {

@@ -1,28 +1,28 @@
-//! Document 01's table of numbers and its sizes: which number a call is answered with before any sound is made. The
-//! Rust has no such numbers, so this rests on document 01 alone.
+//! The numbers of docs/RULES.md and the sizes: which number a call is answered with before any sound is made. The Rust
+//! has no such numbers, so this rests on the rules alone.
 
 use crate::world::{Reply, Request, World};
 use hall::{Cursors, Filter, State};
 
-/// > D = 225, 341, 441, 556; line i has length D[i mod 4] + F.
+/// R1.9, R1.10: the length of a line's ring.
 pub fn line_length(line: usize, frame: usize) -> usize {
     [225, 341, 441, 556][line % 4] + frame
 }
 
-/// > Allpass stage 0: x ring 225, y ring 341. Stage 1: x ring 341, y ring 441.
+/// R1.12, R1.13: the lengths of the allpass rings.
 pub const PASSES: [usize; 4] = [225, 341, 341, 441];
 
-/// > Store: exactly 7,600 + 16F floats.
+/// R1.19: the floats of a store.
 pub fn store_length(frame: usize) -> usize {
     7_600 + 16 * frame
 }
 
-/// > Work: exactly 34F + 1,348.
+/// R1.21: the floats of a work memory.
 pub fn work_length(frame: usize) -> usize {
     34 * frame + 1_348
 }
 
-/// The places of the store's rings: sixteen lines, then four allpass rings.
+/// R1.20: the places of the store's rings: sixteen lines, then four allpass rings.
 pub fn ring_ranges(frame: usize) -> Vec<std::ops::Range<usize>> {
     let lengths = (0..16).map(|line| line_length(line, frame)).chain(PASSES);
     let mut start = 0;
@@ -46,8 +46,7 @@ pub fn time_ok(time: f32) -> bool {
     time.is_finite() && (0.0..=100.0).contains(&time)
 }
 
-/// > It is in range when rate and F are, every cursor is below its ring's length, and, while no frame is open, all that
-/// > is held for one is blank: kind apply, no job marked, count 0, filters all +0.
+/// R1.27 to R1.30: whether a state is in range.
 pub fn in_range(s: &State) -> bool {
     let below = |c: &Cursors, length: usize| c.read < length && c.write < length;
     rate_ok(s.rate)
@@ -99,9 +98,7 @@ pub fn lent(request: Request) -> [bool; 5] {
     }
 }
 
-/// > Read i: once each. Mix: once, after all 16 reads. Line i: once each, after the mix. Output: once, after all 16
-/// > reads. Close: after all 34. With a frame open, open, whole calls and reset are answered 5; with none, jobs, close and
-/// > abandon are.
+/// R5.4, R5.5, R5.11 to R5.14, R5.20: whether it is a call's turn.
 fn in_turn(s: &State, request: Request) -> bool {
     let done = |jobs: std::ops::Range<usize>| s.marks[jobs].iter().all(|mark| *mark);
     match request {
@@ -115,7 +112,7 @@ fn in_turn(s: &State, request: Request) -> bool {
     }
 }
 
-/// 6, 7 and 8: times, coefficients and input of an apply.
+/// R2.16 to R2.18: 6, 7 and 8 for the times, coefficients and input of an apply.
 fn judged_given(world: &World, request: Request) -> Reply {
     let (Request::Apply(times) | Request::OpenApply(times)) = request else {
         return Reply::plain(0);

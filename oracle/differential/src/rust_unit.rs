@@ -58,7 +58,7 @@ pub fn keep(effect: &ReverbEffect, world: &mut World) {
 
 /// A ring's cursors.
 ///
-/// > The port's cursor stays below L; the Rust's read cursor can rest at L
+/// The Rust's read cursor may rest at the ring's length, where ours is 0 (R3.7).
 pub fn cursors(ring: &Delay) -> Cursors {
     let (read, write) = ring.cursors();
     let length = ring.ring().len();
@@ -79,7 +79,7 @@ pub fn apply(effect: &mut ReverbEffect, world: &World, times: [f32; 3]) -> (Repl
 
 /// The whole tail; its reply and its output.
 ///
-/// > count falls by one, staying at -2,147,483,648 there
+/// R4.13: a count of -2,147,483,648 stays, where the Rust's would overflow.
 pub fn tail(effect: &mut ReverbEffect) -> (Reply, Vec<f32>) {
     let mut output = vec![0.0; effect.frame_size];
     effect.set_count(effect.count().max(i32::MIN + 1));
@@ -95,7 +95,7 @@ fn reply(verdict: AudioEffectState) -> Reply {
     }
 }
 
-/// > 9 judges the new filter numbers, the rows put, the four allpass rings and the output.
+/// R4.14: whether 9 finds nothing to judge.
 ///
 /// `before` is the state in which the frame began: the rows were put from its write cursors on.
 pub fn all_finite(effect: &ReverbEffect, before: &State, output: &[f32]) -> bool {

@@ -279,7 +279,7 @@ fn delays() {
     }
 }
 
-/// Compares the power of a prime with document 01's rule, for all x to 200,000 and all sixteen primes.
+/// R8.15: compares the power of a prime with the exact rule, for every x up to 200,000 and all sixteen primes.
 fn powers() {
     const PRIMES: [i32; 16] = [2, 3, 5, 7, 11, 13, 17, 19, 23, 29, 31, 37, 41, 43, 47, 53];
     let mut differences = 0;
@@ -298,7 +298,7 @@ fn powers() {
     );
 }
 
-/// > x = 0 gives 1. Else p to the m, where m = 0 if x² < p, otherwise p^(2m-1) ≤ x² < p^(2m+1)
+/// R6.13: the first power whose square, times p, is above that of x.
 fn nearest_power(x: i32, p: i32) -> i32 {
     let (square, p) = (i64::from(x).pow(2), i64::from(p));
     let mut power = 1;

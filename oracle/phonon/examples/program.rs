@@ -1,4 +1,4 @@
-//! Document 01's program, played with the published Rust: standard input to standard output. The outputs
+//! The program (R9), played with the published Rust: standard input to standard output. The outputs
 //! in tests/cases were made by it.
 
 use phonon::dsp::audio_buffer::AudioSettings;
@@ -6,7 +6,7 @@ use phonon::dsp::reverb_estimator::Reverb;
 use phonon::effects::reverb::{ReverbEffect, ReverbEffectParams};
 use std::io::{Read, Write, stdin, stdout};
 
-/// > F 128, rate 48,000, times 0.1.
+/// R9.1: what the program is set to.
 const FRAME: usize = 128;
 const RATE: u32 = 48_000;
 const TIMES: [f32; 3] = [0.1; 3];
@@ -35,7 +35,7 @@ fn main() -> std::io::Result<()> {
     stdout().write_all(&written)
 }
 
-/// > Band 0 of each line has b0 = 0.5, every other filter b0 = 1, all else 0.
+/// R9.3: its coefficients.
 fn coefficients() -> [f32; 255] {
     let mut given = [0.0; 255];
     for line in 0..16 {
@@ -49,7 +49,7 @@ fn coefficients() -> [f32; 255] {
     given
 }
 
-/// > 8: an input sample isn't finite
+/// R2.18, R9.9: a frame with a bad sample is refused, and written as zeros.
 fn apply(unit: &mut ReverbEffect, input: &[f32; FRAME]) -> [f32; FRAME] {
     if !input.iter().all(|x| x.is_finite()) {
         return [0.0; FRAME];
@@ -67,9 +67,7 @@ fn tail(unit: &mut ReverbEffect) -> [f32; FRAME] {
     })
 }
 
-/// > 9: the frame would keep or hand out a number that isn't finite: state from before .. store .. unchanged
-/// >
-/// > A refused frame is written as 128 zeros.
+/// R4.14, R4.15, R9.9: a frame that 9 refuses leaves the unit, and is written as zeros.
 ///
 /// All that is kept was finite before, so that the whole lines are judged for the rows put.
 fn accepted(unit: &mut ReverbEffect, frame: impl FnOnce(&mut ReverbEffect, &mut [f32])) -> [f32; FRAME] {

@@ -90,7 +90,7 @@ fn kept(effect: &ReverbEffect, tape: &mut Tape) {
 
 /// A ring's read and write cursor.
 ///
-/// > The port's cursor stays below L; the Rust's read cursor can rest at L
+/// The Rust's read cursor may rest at the ring's length, where ours is 0 (R3.7).
 pub fn cursors(ring: &Delay) -> [u32; 2] {
     let (read, write) = ring.cursors();
     let read = if read == ring.ring().len() { 0 } else { read };

@@ -164,7 +164,7 @@ fn changed(mut channels: Vec<Vec<f32>>, change: impl FnOnce(&mut [&mut [f32]])) 
     channels.concat()
 }
 
-/// > 4 for the counts, 3 for the length, 4 for the channel: the Rust hands out no single channel.
+/// R7.13: 4 for the counts, 3 for the length, 4 for the channel. The Rust hands out no single channel.
 fn channel_number(dice: &mut Dice, journal: &mut Journal) -> Check {
     let channels = dice.pick(&[0, 1, 2, 15, 16, 17, usize::MAX]);
     let samples = dice.pick(&[0, 1, 7, 65_536, 65_537, 1 << 60, usize::MAX]);

@@ -9,7 +9,7 @@ const PRIMES: [i32; 16] = [2, 3, 5, 7, 11, 13, 17, 19, 23, 29, 31, 37, 41, 43, 4
 /// up must be written here and in docs/DIFFERENCES.md.
 const LISTED: [(u32, i32); 0] = [];
 
-/// > The Rust uses f32 logarithms; compare all x to 200,000 and list differences.
+/// R8.15: the nearest powers beside the Rust's, which are rounded logarithms, for every x up to 200,000.
 pub fn all_powers(journal: &mut Journal) -> Check {
     journal.begin();
     let mut powers = vec![0; 200_001];

@@ -96,7 +96,7 @@ fn put(dice: &mut Dice, journal: &mut Journal, ring: &mut Ring) -> Check {
     same_ring(journal, ring, answer)
 }
 
-/// > The port's cursor stays below L; the Rust's read cursor can rest at L, and its `get4` then panics.
+/// R3.7, R3.11: a Rust read cursor that rests at the ring's length is set to 0 before, since its `get4` would panic.
 fn get4(journal: &mut Journal, ring: &mut Ring) -> Check {
     journal.call(format_args!("ring get4, L {}, {:?}", ring.samples.len(), ring.cursors));
     if ring.rust.cursors().0 == ring.samples.len() {
@@ -124,7 +124,7 @@ fn reset(journal: &mut Journal, ring: &mut Ring) -> Check {
     same_ring(journal, ring, answer)
 }
 
-/// > a ring alone of length 0 or above 65,536 is answered 3, its cursors unjudged
+/// R2.6: a ring that is empty or too long, whatever its cursors are.
 fn refused_by_length(dice: &mut Dice, journal: &mut Journal) -> Check {
     let length = dice.pick(&[0, 0, 65_537]);
     let samples = Lent::from(sounds::any_row(dice, length));
@@ -149,7 +149,7 @@ fn refused_by_cursor(dice: &mut Dice, journal: &mut Journal, ring: &Ring) -> Che
     refused(dice, journal, &ring.samples, cursors, n, 1)
 }
 
-/// > 4: .. ring n of 0 or above L
+/// R3.15: a get or put of no sample, or of more than the ring has.
 fn refused_by_count(dice: &mut Dice, journal: &mut Journal, ring: &Ring) -> Check {
     let n = dice.pick(&[0, ring.samples.len() + 1, 2 * ring.samples.len() + 3]);
     refused(dice, journal, &ring.samples, ring.cursors, n, 4)

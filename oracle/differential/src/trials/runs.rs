@@ -95,7 +95,7 @@ fn fresh(dice: &mut Dice, journal: &mut Journal, frame: usize) -> Result<World, 
     Ok(made)
 }
 
-/// > Fresh takes rate, F and store ..; refused, it gives such a state with rate 8,000 and F 4.
+/// R2.20, R2.33: a fresh that is refused, and the state that it gives.
 fn refused_fresh(dice: &mut Dice, journal: &mut Journal, rate: u32, frame: usize) -> Check {
     let rate = if dice.once_in(2) { sounds::bad_rate(dice) } else { rate };
     let frame = if dice.once_in(2) {

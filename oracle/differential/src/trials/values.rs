@@ -38,9 +38,7 @@ fn accepted(value: u32) -> Value {
     Value { number: 0, value }
 }
 
-/// > delay_min = whole part of ((0.15·time)·rate)/16
-///
-/// The Rust has it inside its sixteen values only, so this one rests on document 01.
+/// R6.8, R6.9: the least delay. The Rust has it inside its sixteen values only, so this one rests on the rules.
 fn least(dice: &mut Dice, journal: &mut Journal) -> Check {
     let (time, rate) = (sounds::time(dice), sounds::rate(dice));
     journal.call(format_args!("delay_min, time {time:e}, rate {rate}"));

@@ -1,10 +1,7 @@
 //! Stands for the crate biquad: one filter in direct form 1 and its five coefficients.
 //!
-//! The crate isn't part of the published text, so the order of the steps is document 01's:
-//!
-//! > Filter: out = (((b0·x + b1·x1) + b2·x2) - a1·y1) - a2·y2, then x2=x1, x1=x, y2=y1, y1=out.
-//!
-//! > Not carried: shelf and peaking design
+//! The crate isn't part of the published text, so the order of the steps is R3.21's and R3.22's. Designing filters is the
+//! host's (R1.16).
 
 /// The five coefficients of a filter.
 #[derive(Copy, Clone, Debug)]

@@ -1,8 +1,6 @@
 //! Stands for the crate derive_deref: a struct of one unnamed field is read through as that field.
 //!
-//! Document 01 has no sentence on it. The reverb's parameters hold the times this way:
-//!
-//! > Times: three finite numbers, 0 to 100.
+//! No rule speaks of it. The reverb's parameters hold the three times (R1.3) this way.
 
 use proc_macro::{Delimiter, TokenStream, TokenTree};
 

@@ -1,8 +1,4 @@
-//! Stands for the crate ndarray: rows of floats, their sum and a few element-wise steps. Document 01:
-//!
-//! > Output: from +0 add the read lines 0 to 15 in order, divide by 16.
-//!
-//! > Each line i: band filters 0, 1, 2 over the frame, then add the input sample, then put.
+//! Stands for the crate ndarray: rows of floats, their sum and a few element-wise steps, in R4.8's and R4.10's order.
 
 use std::ops::{AddAssign, DivAssign, RangeBounds};
 use std::slice::SliceIndex;

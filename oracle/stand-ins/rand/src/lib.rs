@@ -1,7 +1,5 @@
-//! Stands for the crate rand: numbers that were handed in, in order. Document 01:
-//!
-//! > sixteen u16 numbers replace `rand`. In the Rust they reach only the gains, so with coefficients
-//! > given they don't touch the sound.
+//! Stands for the crate rand: numbers that were handed in, in order (R6.10). In the Rust they go into gains, whose place
+//! the given coefficients take.
 
 use std::cell::RefCell;
 use std::collections::VecDeque;

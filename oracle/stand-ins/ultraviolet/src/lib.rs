@@ -1,8 +1,4 @@
-//! Stands for the crate ultraviolet: its four floats side by side. Document 01:
-//!
-//! > `f32x4` four floats by value
-//!
-//! > Float steps are IEEE 754-2019 binary32, nearest-even, one rounding each, no fused steps.
+//! Stands for the crate ultraviolet: its four floats side by side, each step on each of them rounded once (R3.1, R3.2).
 
 use std::ops::{Add, Mul, Sub};
 
