@@ -38,24 +38,27 @@
  *         return 0;
  *     }
  *
- * THE NUMBER OF AN ANSWER. The lowest number that applies is given. A refused call hands the state back as it
+ * Every rule stands in docs/RULES.md, by number: R1.19 is the length of a store.
+ *
+ * THE NUMBER OF AN ANSWER (R2). Where several apply it is the least. A refused call hands the state back as it
  * was given and leaves every lent slice as it was, 9 aside.
  *
  *   0  accepted.
- *   1  a field of the state (or of a ring's cursors) is out of range. The state isn't one that these calls gave
- *      for this library's HALL_VERSION: begin again with hall_fresh.
+ *   1  the state is out of range (R1.27), or a cursor of a ring alone isn't below the ring's length. From
+ *      hall_fresh on no call gives such a state: it was changed, or is another HALL_VERSION's. Begin again with
+ *      hall_fresh; of a ring alone, set both cursors to 0.
  *   2  the rate isn't in 8,000 to 192,000, or the frame no multiple of 4 in 4 to 1,024. Choose others.
- *   3  a lent slice hasn't its exact length. The lengths stand at each call; a slice that is too long is
- *      refused too.
+ *   3  a lent slice hasn't the length that stands at the call; one that is too long is refused too.
  *   4  a number of the request is out of range: line above 15; a ring's n of 0 or above its length; channels
  *      0 or above 16; samples above 65,536; channel not below the channels; x above 200,000; index above 15.
- *   5  out of turn: a job, close or abandon with no frame open; anything else with one open; a job done before,
- *      or not ready. Make the missing jobs first, or hall_abandon.
- *   6  a time isn't finite or not in 0 to 100.
+ *   5  out of turn: a job, close or abandon with no frame open; a reset, a whole call or an open with one open; a
+ *      job done before; a job or a close that has to wait. Make the missing jobs first, or hall_abandon.
+ *      hall_fresh has no turn: it begins another unit.
+ *   6  a reverb time is no number from 0 to 100.
  *   7  a coefficient isn't finite. Design the filters again.
  *   8  an input sample isn't finite; `index` says which is the first. Mute it and ask again.
- *   9  the frame would keep or hand out a number that isn't finite. The state is the one from before the frame,
- *      store and output are unchanged, work is all +0. Play silence. With gentler coefficients or input the
+ *   9  the frame came to a NaN or an infinity (R4.14). The state is the one from before the frame, store and
+ *      output are as they were, work is all +0. Play silence. With gentler coefficients or input the
  *      next frame may be accepted. A 9 that repeats comes from the sound kept in the lines: every later frame
  *      would be refused as well, so call hall_reset.
  *
@@ -99,7 +102,8 @@ typedef struct {
     size_t read, write;
 } hall_cursors;
 
-/* A filter: out = (((b0*x + b1*x1) + b2*x2) - a1*y1) - a2*y2, then x2 = x1, x1 = x, y2 = y1, y1 = out. */
+/* A filter (R3.21, R3.22): out is b0*x, plus b1*x1, plus b2*x2, minus a1*y1, minus a2*y2, rounded at each step. Then
+ * x1 goes to x2 and x to x1, y1 to y2 and out to y1. */
 typedef struct {
     float a1, a2, b0, b1, b2, x1, x2, y1, y2;
 } hall_filter;
@@ -141,7 +145,7 @@ typedef struct {
     uint32_t value;
 } hall_value;
 
-/* ---- Whole frames. Store is HALL_STORE(F) floats, work HALL_WORK(F), input and output F. ----
+/* ---- Whole frames (R4). Store is HALL_STORE(F) floats, work HALL_WORK(F), input and output F. ----
  * The store is kept from call to call. Work may hold anything before a call and is all +0 after one that was
  * accepted. */
 
@@ -163,9 +167,9 @@ hall_answer hall_apply(hall_state s, float t0, float t1, float t2, const float *
 hall_answer hall_tail(hall_state s, float *store, size_t store_len, float *work, size_t work_len, float *output,
                       size_t output_len);
 
-/* ---- The same as jobs. ----
+/* ---- The same as jobs (R5). ----
  * Open, then the 34 jobs, then close. Read 0 to 15, once each, in any order; the mix once, after all reads;
- * line 0 to 15, once each, after the mix; output once, after all reads (it need not wait for the mix). Close
+ * line 0 to 15, once each, after the mix; output once, after all reads, be the mix made or not. Close
  * comes after all 34. Store, output, cursors and count change at close and not before; the work memory carries
  * the frame and must not be touched until then. A refused job changes nothing, so it may be asked for again.
  * One call at a time: each is given the state that the one before it handed back, and is lent all of work. */
@@ -198,7 +202,7 @@ hall_answer hall_close(hall_state s, float *store, size_t store_len, float *work
 /* Gives up an open frame: the state is that from before the open, work is all +0. Answers 1, 3, 5. */
 hall_answer hall_abandon(hall_state s, float *work, size_t work_len);
 
-/* ---- A ring alone, of 1 to 65,536 samples of any floats. ----
+/* ---- A ring alone (R3.6 to R3.20), of 1 to 65,536 samples of any floats. ----
  * Get n before put n, and what comes out was put in one ring's length earlier. n is the length of the other
  * slice, 1 to the ring's. All answer 3 for the ring's length, then 1 for its cursors; get and put 4 for n.
  * Refused, the cursors are those given and x is four +0. */
@@ -218,11 +222,11 @@ hall_ring_answer hall_ring_reset(float *ring, size_t ring_len, hall_cursors c);
 /* Filters the samples in place and hands back the filter with its new history. Never refused. */
 hall_filter hall_filter_run(hall_filter f, float *xs, size_t xs_len);
 
-/* y[r] is the sum of x[0] to x[15], x[c] with a minus where r AND c has an odd count of ones, times 0.25.
- * Answers 3 unless both slices have 16 floats. */
+/* y[r] is the sum of x[0] to x[15], times 0.25; x[c] is subtracted where r and c, as bits, have an odd number of
+ * ones in common (R3.26 to R3.28). Answers 3 unless both slices have 16 floats. */
 uint32_t hall_mix16(const float *x, size_t x_len, float *y, size_t y_len);
 
-/* ---- Delay values, by sixteen primes: index 0 is 2, index 15 is 53. ---- */
+/* ---- Delay values (R6), by sixteen primes: index 0 is 2, index 15 is 53. ---- */
 
 /* The whole part of 0.15 * time * rate / 16. Answers 2, 6. */
 hall_value hall_delay_min(float time, uint32_t rate);
@@ -233,7 +237,7 @@ hall_value hall_prime_power(uint32_t x, size_t index);
 /* The power that is nearest to hall_delay_min + (random mod 101). Answers 2, 4, 6. */
 hall_value hall_delay_value(float time, uint32_t rate, uint16_t random, size_t index);
 
-/* ---- Buffers of 1 to 16 channels, 0 to 65,536 samples each, channel after channel, of any floats. ----
+/* ---- Buffers (R7) of 1 to 16 channels, each of up to 65,536 samples, one behind the other, of any floats. ----
  * A slice is channels times samples long, the output of downmix samples long. All answer 4 for the counts,
  * then 3 for a length; downmix answers 3 for its output's length first where `samples` is in range. */
 

@@ -625,7 +625,7 @@ static void lowest_number_first(void) {
     refused(&job, 5, 0);
 }
 
-/* 9: the state from before the open, store and output unchanged, work all +0. */
+/* R2.19: 9. The state is that of before the frame, store and output stay, work is +0 throughout. */
 static void refused_frames(call c) {
     fill_finite(8);
     hall_state s = numbered(8);
@@ -792,7 +792,7 @@ static void abandoned(void) {
     CHECK(a.number == 0 && same_state(&a.state, &s) && all_plus_zero(slice(WORK), HALL_WORK(8)));
 }
 
-/* Document 01: with band 0 of each line at 0.5 and input 1.0 alone, outputs 353 and 469 are 1/64; before 353 all +0. */
+/* R9.27: where the first echoes of one sample fall. */
 static void click(void) {
     fill_finite(128);
     for (size_t k = 0; k < 51; k++) slice(COEFFICIENTS)[5 * k + 2] = k < 48 && k % 3 == 0 ? 0.5f : 1.0f;
