@@ -1,4 +1,4 @@
--- A contract determines the result and every lent float afterwards: one theorem for each public function of the library, over its real
+-- R8.28: a contract leaves one result and one value for each lent float. One theorem for each public function of the library, over its real
 -- contract. Each is read off the contract's shape: a clause for the result and one for each slice lent. Assumes nothing.
 use mathlib.Core.Path.{_≡_, sym, _∙_}
 use lib.ListN.{getD}
