@@ -10,15 +10,15 @@ ghost use Rattle.samples.specs.Binary32.{+0, finite, plusZero};
 ghost use Rattle.samples.specs.Answers.{numberOf, indexOf, accepted, need};
 ghost use Rattle.samples.specs.Sizes.{rateOk, frameOk};
 
-// A position in a ring, or a distance, counted in samples.
+// A position in a ring, or a distance, counted in samples (R1.6).
 #[repr(C)]
 pub struct Samples(pub usize);
 
-// A length of time counted in frames.
+// A length of time counted in frames (R1.6, R1.7).
 #[repr(C)]
 pub struct Frames(pub i32);
 
-// What a call answers. `numberOf` gives each case its number.
+// What a call answers. `numberOf` gives each case its number (R2.10 to R2.19).
 pub enum Answer {
     Accepted,
     BadState,
@@ -35,7 +35,7 @@ pub enum Answer {
 // The longest frame, in samples.
 pub const LONGEST_FRAME: usize = 1024;
 
-// The number of an answer.
+// The number of an answer (R2.1).
 pub fn number(a: Answer) -> u32
     ensures { λ r. ⌜ r ≡ numberOf a ⌝ }
 {
@@ -53,7 +53,7 @@ pub fn number(a: Answer) -> u32
     }
 }
 
-// The index that an answer carries, 0 where it carries none.
+// The index that an answer carries, 0 where it carries none (R2.9).
 pub fn index(a: Answer) -> usize
     ensures { λ r. ⌜ r ≡ indexOf a ⌝ }
 {
@@ -71,7 +71,7 @@ pub fn index(a: Answer) -> usize
     }
 }
 
-// Whether a call was accepted.
+// Whether a call was accepted (R2.10).
 pub fn is_accepted(a: Answer) -> bool
     ensures { λ r. ⌜ r ≡ accepted a ⌝ }
 {
@@ -89,7 +89,7 @@ pub fn is_accepted(a: Answer) -> bool
     }
 }
 
-// The answer `bad` where a test fails, else what the later tests say.
+// The answer `bad` where a test fails, else what the later tests say (R2.2).
 pub fn need(ok: bool, bad: Answer, rest: Answer) -> Answer
     ensures { λ r. ⌜ r ≡ need ok bad rest ⌝ }
 {
@@ -103,21 +103,21 @@ pub fn and(a: bool, b: bool) -> bool
     if a { b } else { false }
 }
 
-// Whether the unit runs at a rate.
+// Whether the unit runs at a rate (R1.1).
 pub fn rate_ok(rate: u32) -> bool
     ensures { λ r. ⌜ r ≡ rateOk rate ⌝ }
 {
     and(8000 <= rate, rate <= 192000)
 }
 
-// Whether the unit takes frames of that many samples.
+// Whether the unit takes frames of that many samples (R1.2).
 pub fn frame_ok(frame: usize) -> bool
     ensures { λ r. ⌜ r ≡ frameOk frame ⌝ }
 {
     and(4 <= frame, and(frame <= LONGEST_FRAME, frame % 4 == 0))
 }
 
-// Whether a sample is a finite number.
+// Whether a sample is a finite number (R3.4).
 pub fn is_finite(x: f32) -> bool
     ensures { λ r. ⌜ r ≡ finite x ⌝ }
 {
@@ -125,14 +125,14 @@ pub fn is_finite(x: f32) -> bool
     x < top && -top < x
 }
 
-// Whether a sample is exactly +0, which -0 equals and is not.
+// Whether a sample is exactly +0, which -0 equals and is not (R3.3).
 pub fn is_plus_zero(x: f32) -> bool
     ensures { λ r. ⌜ r ≡ plusZero x ⌝ }
 {
     if x == 0.0 { 0.0 < 1.0 / x } else { false }
 }
 
-// Sets every sample to +0.
+// Sets every sample to +0 (R3.3).
 pub fn clear(xs: &mut [f32])
     ensures { λ _. ⌜ now (xs .exit) ≡ replicate (length (now (xs .entry))) +0 ⌝ }
 {

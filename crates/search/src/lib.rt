@@ -17,7 +17,7 @@ const SHORT_ROW: usize = 64;
 
 // The first sample that is not finite, searched row by row in rows of `row` samples, or of
 // `SHORT_ROW` where that is more: a last row may be shorter, and where `row` is 0 all is one row. A
-// row is judged as a whole, and searched sample by sample where it is bad.
+// row is judged as a whole, and searched sample by sample where it is bad (R2.37).
 pub fn first_bad(rows: &[f32], row: usize) -> Found
     ensures { λ r. ⌜ r ≡ firstBad (now (rows .entry)) ⌝ }
 {
@@ -50,7 +50,7 @@ pub fn is_nothing(f: Found) -> bool
     }
 }
 
-// Whether every sample is finite, searched as `first_bad` does.
+// Whether every sample is finite, searched as `first_bad` does (R2.17, R4.14).
 pub fn all_finite(rows: &[f32], row: usize) -> bool
     ensures { λ r. ⌜ r ≡ allFinite (now (rows .entry)) ⌝ }
 {
