@@ -24,7 +24,7 @@ struct Turned {
 
 // Runs one allpass stage over the first f samples of w, by whole fours. Its x ring is the lx
 // samples from `at` on, its y ring the ly samples after those. Where these parts do not fit into w,
-// nothing changes.
+// nothing changes (R3.35, R3.37).
 pub fn pass_stage(
     w: &mut [f32],
     f: usize,

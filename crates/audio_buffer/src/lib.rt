@@ -26,7 +26,7 @@ const MOST_CHANNELS: usize = 16;
 
 pub const MOST_SAMPLES: usize = 65536;
 
-// What a count of frames says of the tail.
+// What a count of frames says of the tail (R4.22).
 pub fn verdict(count: Frames) -> AudioEffectState
     ensures { λ r. ⌜ r ≡ verdictOf (count .0) ⌝ }
 {
@@ -44,7 +44,8 @@ fn channels_ok(channels: usize) -> bool
     and(1 <= channels, channels <= MOST_CHANNELS)
 }
 
-// Judges the counts, then the length of a slice that is to hold them, then what `rest` says.
+// Judges the counts, then the length of a slice that is to hold them, then what `rest`
+// says (R7.10, R7.11).
 pub fn judge_then(channels: usize, samples: usize, len: usize, rest: Answer) -> Answer
     ensures { λ r. ⌜ r ≡ judgedThen channels samples len rest ⌝ }
 {
@@ -55,7 +56,7 @@ pub fn judge_then(channels: usize, samples: usize, len: usize, rest: Answer) -> 
     }
 }
 
-// Judges a call that is lent two buffers of one size.
+// Judges a call that is lent two buffers of one size (R7.10, R7.11).
 pub fn judge_two(channels: usize, samples: usize, len: usize, other: usize) -> Answer
     ensures { λ r. ⌜ r ≡ judgedTwo channels samples len other ⌝ }
 {
@@ -83,7 +84,7 @@ fn transpose(rows: usize, row: usize, source: &[f32], target: &mut [f32])
     }
 }
 
-// Writes a buffer frame after frame.
+// Writes a buffer frame after frame (R7.2).
 pub fn write_interleaved(
     channels: usize,
     samples: usize,
@@ -100,7 +101,7 @@ pub fn write_interleaved(
     answer
 }
 
-// Reads a buffer that lies frame after frame.
+// Reads a buffer that lies frame after frame (R7.3).
 pub fn read_interleaved(
     channels: usize,
     samples: usize,
@@ -117,7 +118,7 @@ pub fn read_interleaved(
     answer
 }
 
-// Judges the request for one channel of a buffer that is `length` samples long.
+// Judges the request for one channel of a buffer that is `length` samples long (R7.13).
 pub fn channel_number(channels: usize, samples: usize, channel: usize, length: usize) -> Answer
     ensures { λ r. ⌜ r ≡ judgedChannel channels samples channel length ⌝ }
 {
@@ -129,7 +130,8 @@ pub fn channel_number(channels: usize, samples: usize, channel: usize, length: u
     )
 }
 
-// Hands out one channel: the buffer's own stretch, or the empty one where `channel_number` refuses.
+// Hands out one channel: the buffer's own stretch, or the empty one where `channel_number`
+// refuses (R7.8, R7.9).
 pub fn channel(buffer: &[f32], channels: usize, samples: usize, channel: usize) -> &[f32]
     ensures { λ r. ⌜ now r ≡ accept (judgedChannel channels samples channel (length (now (buffer .entry)))) (take samples (drop (channel * samples) (now (buffer .entry)))) [] ⌝ }
 {

@@ -30,14 +30,14 @@ pub struct Counted {
     pub count: Frames,
 }
 
-// Whether a reverb time is one that the unit takes.
+// Whether a reverb time is one that the unit takes (R1.3).
 pub fn time_ok(time: f32) -> bool
     ensures { λ r. ⌜ r ≡ timeOk time ⌝ }
 {
     and(0.0 <= time, time <= 100.0)
 }
 
-// Whether the unit takes all three times.
+// Whether the unit takes all three times (R1.3).
 pub fn times_ok(t: Times) -> bool
     ensures { λ r. ⌜ r ≡ timesOk t ⌝ }
 {
@@ -54,14 +54,14 @@ fn larger(x: f32, y: f32) -> f32
     if x == x { x } else { y }
 }
 
-// The largest of the three times, by which the tail is counted.
+// The largest of the three times, by which the tail is counted (R6.1).
 pub fn largest(t: Times) -> f32
     ensures { λ r. ⌜ r ≡ largest t ⌝ }
 {
     larger(larger(t.low, t.mid), t.high)
 }
 
-// How many frames the tail lasts that an input with these times leaves behind.
+// How many frames the tail lasts that an input with these times leaves behind (R6.6).
 pub fn tail_count(t: Times, rate: u32, frame: usize) -> Counted
     ensures { λ r. ⌜ r ≡ record { answer = judgedCount t rate frame; count = record { 0 = pos (countOf t rate frame) } } ⌝ }
 {
@@ -106,7 +106,7 @@ fn frames_in(time: f32, rate: u32, frame: u32) -> u32
     }
 }
 
-// One frame less to come, down to the least count there is.
+// One frame less to come, down to the least count there is (R4.13).
 pub fn fallen(count: Frames) -> Frames
     ensures { λ r. ⌜ r ≡ record { 0 = fallen (count .0) } ⌝ }
 {

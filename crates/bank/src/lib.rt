@@ -20,7 +20,7 @@ ghost use Rattle.iir.specs.Runs.{bandsOut, bandsEnd};
 ghost use Rattle.bank.specs.Lines.{lines, linesOut, linesEnd};
 
 // Filters four rows in place, each by its line's bands, and gives the bands after them. The rows lie
-// one after the other and are a quarter of the slice each; what is over stays as it is.
+// one after the other and are a quarter of the slice each; what is over stays as it is (R4.7).
 pub fn four_lines(b: FourBands, rows: &mut [f32]) -> FourBands
     ensures { λ r. ⌜ lines r ≡ linesEnd (length (now (rows .entry)) / 4) (lines b) (now (rows .entry)) ⌝ }
     ensures { λ _. ⌜ now (rows .exit) ≡ linesOut (length (now (rows .entry)) / 4) (lines b) (now (rows .entry)) ⌝ }
@@ -34,7 +34,7 @@ pub fn four_lines(b: FourBands, rows: &mut [f32]) -> FourBands
     }
 }
 
-// Filters a row in place by a line's bands 0, 1 and 2, and gives the bands after it.
+// Filters a row in place by a line's bands 0, 1 and 2, and gives the bands after it (R3.25).
 pub fn one_line(b: Bands, xs: &mut [f32]) -> Bands
     ensures { λ r. ⌜ r ≡ bandsEnd b (now (xs .entry)) ⌝ }
     ensures { λ _. ⌜ now (xs .exit) ≡ bandsOut b (now (xs .entry)) ⌝ }

@@ -42,7 +42,7 @@ pub struct FourAnswer {
 // The longest ring, in samples.
 const LONGEST_RING: usize = 65536;
 
-// A new ring: silent, with both cursors at its start.
+// A new ring: silent, with both cursors at its start (R3.17).
 pub fn fresh(ring: &mut [f32]) -> RingAnswer
     ensures { λ r. ⌜ r ≡ freshAnswer (length (now (ring .entry))) ⌝ }
     ensures { λ _. ⌜ now (ring .exit) ≡ freshRing (now (ring .entry)) ⌝ }
@@ -58,7 +58,7 @@ pub fn fresh(ring: &mut [f32]) -> RingAnswer
     }
 }
 
-// Silences a ring and leaves its cursors where they are.
+// Silences a ring and leaves its cursors where they are (R3.18).
 pub fn reset(ring: &mut [f32], c: Cursors) -> RingAnswer
     ensures { λ r. ⌜ r ≡ resetAnswer (length (now (ring .entry))) c ⌝ }
     ensures { λ _. ⌜ now (ring .exit) ≡ resetRing (now (ring .entry)) c ⌝ }
@@ -68,7 +68,7 @@ pub fn reset(ring: &mut [f32], c: Cursors) -> RingAnswer
     RingAnswer { answer, cursors: c }
 }
 
-// Reads as many samples as `out` takes, and moves the read cursor past them.
+// Reads as many samples as `out` takes, and moves the read cursor past them (R3.8).
 pub fn get(ring: &[f32], c: Cursors, out: &mut [f32]) -> RingAnswer
     ensures { λ r. ⌜ r ≡ getAnswer (length (now (ring .entry))) c (length (now (out .entry))) ⌝ }
     ensures { λ _. ⌜ now (out .exit) ≡ getOut (now (ring .entry)) c (now (out .entry)) ⌝ }
@@ -91,7 +91,7 @@ pub fn get(ring: &[f32], c: Cursors, out: &mut [f32]) -> RingAnswer
     }
 }
 
-// Writes the samples `xs`, and moves the write cursor past them.
+// Writes the samples `xs`, and moves the write cursor past them (R3.9).
 pub fn put(ring: &mut [f32], c: Cursors, xs: &[f32]) -> RingAnswer
     ensures { λ r. ⌜ r ≡ putAnswer (length (now (ring .entry))) c (length (now (xs .entry))) ⌝ }
     ensures { λ _. ⌜ now (ring .exit) ≡ putRing (now (ring .entry)) c (now (xs .entry)) ⌝ }
@@ -114,7 +114,7 @@ pub fn put(ring: &mut [f32], c: Cursors, xs: &[f32]) -> RingAnswer
     }
 }
 
-// Reads four samples one after the other, and moves the read cursor past them.
+// Reads four samples one after the other, and moves the read cursor past them (R3.11).
 pub fn get4(ring: &[f32], c: Cursors) -> FourAnswer
     ensures { λ r. ⌜ r ≡ get4Answer (now (ring .entry)) c ⌝ }
 {
@@ -140,7 +140,7 @@ pub fn get4(ring: &[f32], c: Cursors) -> FourAnswer
     }
 }
 
-// Writes four samples one after the other, and moves the write cursor past them.
+// Writes four samples one after the other, and moves the write cursor past them (R3.12).
 pub fn put4(ring: &mut [f32], c: Cursors, x: Four) -> RingAnswer
     ensures { λ r. ⌜ r ≡ put4Answer (length (now (ring .entry))) c ⌝ }
     ensures { λ _. ⌜ now (ring .exit) ≡ put4Ring (now (ring .entry)) c x ⌝ }

@@ -12,14 +12,14 @@ ghost use lib.ListN.{length};
 ghost use Rattle.samples.specs.Answers.{accept};
 ghost use Rattle.hadamard.specs.Mix.{minus, plusMinus, mixAt, mixed, quarter, judgedSample};
 
-// Whether row r of the mix takes column c with a minus.
+// Whether row r of the mix takes column c with a minus (R3.26).
 pub fn minus(r: usize, c: usize) -> bool
     ensures { λ m. ⌜ m ≡ minus r c ⌝ }
 {
     usize::count_ones(r & c) % 2 == 1
 }
 
-// Mixes one sample of each of sixteen lines.
+// Mixes one sample of each of sixteen lines (R3.29).
 pub fn mix_sample(x: &[f32], y: &mut [f32]) -> Answer
     ensures { λ a. ⌜ a ≡ judgedSample (length (now (x .entry))) (length (now (y .entry))) ⌝ }
     ensures { λ a. ⌜ now (y .exit) ≡ accept a (mixed 16 quarter (now (x .entry))) (now (y .entry)) ⌝ }
@@ -54,7 +54,7 @@ fn mix_at(x: &[f32], k: f32, r: usize) -> f32
     sum * k
 }
 
-// A sum with one number more, with a minus or without.
+// A sum with one number more, with a minus or without (R3.27).
 pub fn plus_minus(m: bool, sum: f32, x: f32) -> f32
     ensures { λ s. ⌜ s ≡ plusMinus m sum x ⌝ }
 {

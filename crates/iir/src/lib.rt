@@ -31,7 +31,7 @@ pub struct Bands {
     pub f2: Filter,
 }
 
-// A filter that no sample has gone through.
+// A filter that no sample has gone through (R3.23).
 pub fn new_from_coefficients(a1: f32, a2: f32, b0: f32, b1: f32, b2: f32) -> Filter
     ensures { λ r. ⌜ r ≡ fromCoefficients a1 a2 b0 b1 b2 ⌝ }
 {
@@ -48,7 +48,7 @@ pub fn new_from_coefficients(a1: f32, a2: f32, b0: f32, b1: f32, b2: f32) -> Fil
     }
 }
 
-// The filter after one sample: its `y1` is what comes out.
+// The filter after one sample: its `y1` is what comes out (R3.21, R3.22).
 pub fn filtered(f: Filter, x: f32) -> Filter
     ensures { λ r. ⌜ r ≡ step f x ⌝ }
 {
@@ -66,7 +66,7 @@ pub fn filtered(f: Filter, x: f32) -> Filter
     }
 }
 
-// Filters a row in place, and gives the filter after it.
+// Filters a row in place, and gives the filter after it (R3.24).
 pub fn run(f: Filter, xs: &mut [f32]) -> Filter
     ensures { λ r. ⌜ r ≡ runEnd f (now (xs .entry)) ⌝ }
     ensures { λ _. ⌜ now (xs .exit) ≡ runOut f (now (xs .entry)) ⌝ }
@@ -81,7 +81,7 @@ pub fn run(f: Filter, xs: &mut [f32]) -> Filter
     g
 }
 
-// Filters a row in place by band 0, then 1, then 2, in one pass over it.
+// Filters a row in place by band 0, then 1, then 2, in one pass over it (R3.25).
 pub fn three_bands(b: Bands, xs: &mut [f32]) -> Bands
     ensures { λ r. ⌜ r ≡ bandsEnd b (now (xs .entry)) ⌝ }
     ensures { λ _. ⌜ now (xs .exit) ≡ bandsOut b (now (xs .entry)) ⌝ }
@@ -104,7 +104,7 @@ pub fn three_bands(b: Bands, xs: &mut [f32]) -> Bands
     }
 }
 
-// Whether all nine numbers of a filter are finite.
+// Whether all nine numbers of a filter are finite (R4.14).
 pub fn is_finite(f: Filter) -> bool
     ensures { λ r. ⌜ r ≡ finiteFilter f ⌝ }
 {
@@ -121,7 +121,7 @@ pub fn is_finite(f: Filter) -> bool
     )
 }
 
-// Whether all nine numbers of a filter are exactly +0.
+// Whether all nine numbers of a filter are exactly +0 (R1.30).
 pub fn is_blank(f: Filter) -> bool
     ensures { λ r. ⌜ r ≡ blankFilter f ⌝ }
 {

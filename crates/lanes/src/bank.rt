@@ -49,7 +49,7 @@ pub fn bands_at(k: usize, g: Bank) -> Bands
     }
 }
 
-// One sample of each line through the bands.
+// One sample of each line through the bands (R3.25).
 pub fn step_bank(g: Bank, x: Four) -> Bank
     ensures { λ r. ⌜ r ≡ stepBank g x ⌝ }
 {

@@ -56,7 +56,7 @@ pub fn lane(k: usize, l: Lanes) -> Filter
     }
 }
 
-// The filters after one sample of each line: their `y1` is what comes out.
+// The filters after one sample of each line: their `y1` is what comes out (R3.21, R3.22).
 pub fn step(l: Lanes, x: Four) -> Lanes
     ensures { λ r. ⌜ r ≡ stepAll l x ⌝ }
 {

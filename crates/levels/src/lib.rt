@@ -73,7 +73,7 @@ fn average(channels: usize, samples: usize, buffer: &[f32], output: &mut [f32])
     amplify(share, output);
 }
 
-// Sets every sample of a buffer to +0.
+// Sets every sample of a buffer to +0 (R7.4).
 pub fn make_silent(channels: usize, samples: usize, buffer: &mut [f32]) -> Answer
     ensures { λ r. ⌜ r ≡ judged channels samples (length (now (buffer .entry))) ⌝ }
     ensures { λ _. ⌜ now (buffer .exit) ≡ accept (judged channels samples (length (now (buffer .entry)))) (replicate (length (now (buffer .entry))) +0) (now (buffer .entry)) ⌝ }
@@ -85,7 +85,7 @@ pub fn make_silent(channels: usize, samples: usize, buffer: &mut [f32]) -> Answe
     answer
 }
 
-// Multiplies every sample of a buffer by a volume.
+// Multiplies every sample of a buffer by a volume (R7.5).
 pub fn scale(channels: usize, samples: usize, volume: f32, buffer: &mut [f32]) -> Answer
     ensures { λ r. ⌜ r ≡ judged channels samples (length (now (buffer .entry))) ⌝ }
     ensures { λ _. ⌜ now (buffer .exit) ≡ accept (judged channels samples (length (now (buffer .entry)))) (scaled volume (now (buffer .entry))) (now (buffer .entry)) ⌝ }
@@ -97,7 +97,7 @@ pub fn scale(channels: usize, samples: usize, volume: f32, buffer: &mut [f32]) -
     answer
 }
 
-// Adds a buffer to another.
+// Adds a buffer to another (R7.6).
 pub fn mix(channels: usize, samples: usize, buffer: &[f32], other: &mut [f32]) -> Answer
     ensures { λ r. ⌜ r ≡ judgedTwo channels samples (length (now (buffer .entry))) (length (now (other .entry))) ⌝ }
     ensures { λ _. ⌜ now (other .exit) ≡ accept (judgedTwo channels samples (length (now (buffer .entry))) (length (now (other .entry)))) (mixed (now (buffer .entry)) (now (other .entry))) (now (other .entry)) ⌝ }
@@ -109,7 +109,7 @@ pub fn mix(channels: usize, samples: usize, buffer: &[f32], other: &mut [f32]) -
     answer
 }
 
-// Brings a buffer down to one channel, the mean of its channels.
+// Brings a buffer down to one channel, the mean of its channels (R7.7).
 pub fn downmix(channels: usize, samples: usize, buffer: &[f32], output: &mut [f32]) -> Answer
     ensures { λ r. ⌜ r ≡ judgedDownmix channels samples (length (now (buffer .entry))) (length (now (output .entry))) ⌝ }
     ensures { λ _. ⌜ now (output .exit) ≡ accept (judgedDownmix channels samples (length (now (buffer .entry))) (length (now (output .entry)))) (downmixed channels samples (now (buffer .entry))) (now (output .entry)) ⌝ }

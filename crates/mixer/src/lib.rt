@@ -16,7 +16,7 @@ ghost use Rattle.hadamard.specs.Mix.{plusMinus};
 ghost use Rattle.hadamard.specs.Rows.{mixedRows, judgedRows, rowsMixed};
 ghost use Rattle.mixer.specs.Passes.{laid, pass, crossed, summed, summedTwo, rowSum, mixedAt};
 
-// Mixes the rows of all lines, which `rows` begins with, into as many rows after them.
+// Mixes the rows of all lines, which `rows` begins with, into as many rows after them (R3.30, R3.31).
 pub fn mix_rows(lines: usize, factor: f32, rows: &mut [f32]) -> Answer
     ensures { λ a. ⌜ a ≡ judgedRows lines (length (now (rows .entry))) ⌝ }
     ensures { λ a. ⌜ now (rows .exit) ≡ accept a (rowsMixed lines factor (now (rows .entry))) (now (rows .entry)) ⌝ }

@@ -31,7 +31,7 @@ pub struct Value {
     pub value: u32,
 }
 
-// The prime of a line.
+// The prime of a line (R6.16).
 pub fn prime(index: usize) -> Value
     ensures { λ r. ⌜ r ≡ valued (judgedIndex index) (primeAt index) ⌝ }
 {
@@ -46,14 +46,14 @@ pub fn prime(index: usize) -> Value
     }
 }
 
-// The ring delay of a line, in samples.
+// The ring delay of a line, in samples (R1.10).
 pub fn delay(line: usize) -> usize
     ensures { λ r. ⌜ r ≡ delayAt line ⌝ }
 {
     DELAYS[line % 4]
 }
 
-// The least delay of a line, in samples.
+// The least delay of a line, in samples (R6.17).
 pub fn delay_min(time: f32, rate: u32) -> Value
     ensures { λ r. ⌜ r ≡ valued (judgedMin time rate) (delayMin time rate) ⌝ }
 {
@@ -68,7 +68,7 @@ pub fn delay_min(time: f32, rate: u32) -> Value
     }
 }
 
-// The power of a prime of the table that is nearest to x.
+// The power of a prime of the table that is nearest to x (R6.18).
 pub fn prime_power(x: u32, index: usize) -> Value
     ensures { λ r. ⌜ r ≡ valued (judgedPower x index) (nearestPower (primeAt index) x) ⌝ }
 {
@@ -83,7 +83,7 @@ pub fn prime_power(x: u32, index: usize) -> Value
     }
 }
 
-// The delay value of one line, from its random number.
+// The delay value of one line, from its random number (R6.19).
 pub fn delay_value(time: f32, rate: u32, random: u16, index: usize) -> Value
     ensures { λ r. ⌜ r ≡ valued (judgedValue time rate index) (valueFrom (delayMin time rate) random index) ⌝ }
 {
@@ -98,7 +98,7 @@ pub fn delay_value(time: f32, rate: u32, random: u16, index: usize) -> Value
     }
 }
 
-// The delay values of all sixteen lines, from their random numbers.
+// The delay values of all sixteen lines, from their random numbers (R6.20).
 pub fn delay_values(time: f32, rate: u32, randoms: &[u16], out: &mut [u32]) -> Answer
     ensures { λ r. ⌜ r ≡ judgedValues time rate (length (now (randoms .entry))) (length (now (out .entry))) ⌝ }
     ensures { λ _. ⌜ now (out .exit) ≡ accept (judgedValues time rate (length (now (randoms .entry))) (length (now (out .entry)))) (valuesFrom (delayMin time rate) 0 (now (randoms .entry))) (now (out .entry)) ⌝ }

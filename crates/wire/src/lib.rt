@@ -8,7 +8,7 @@ ghost use lib.Ieee.{binary32, ofBits, toBits};
 ghost use Rattle.samples.specs.Lists.{over};
 ghost use Rattle.wire.specs.Wire.{valueOf, bytesOf, firstSample, decoded, written};
 
-// The float of a pattern, which for the pattern of a NaN is NaN.
+// The float of a pattern, which for the pattern of a NaN is NaN (R9.4).
 pub fn sample(n: u32) -> f32
     ensures { λ r. ⌜ r ≡ ofBits binary32 n ⌝ }
 {
@@ -19,7 +19,7 @@ pub fn sample(n: u32) -> f32
     }
 }
 
-// The pattern of a float, which for NaN is that of the quiet NaN.
+// The pattern of a float, which for NaN is that of the quiet NaN (R9.18).
 pub fn bits(x: f32) -> u32
     ensures { λ r. ⌜ r ≡ toBits binary32 x ⌝ }
 {
@@ -51,7 +51,7 @@ fn sample_at(bytes: &[u8], at: usize) -> f32
     sample(word(bytes[at], bytes[at + 1], bytes[at + 2], bytes[at + 3]))
 }
 
-// Fills `out` with the floats of the bytes, and with +0 past the last whole one.
+// Fills `out` with the floats of the bytes, and with +0 past the last whole one (R9.16).
 pub fn decode(bytes: &[u8], out: &mut [f32])
     ensures { λ _. ⌜ now (out .exit) ≡ decoded (length (now (out .entry))) (now (bytes .entry)) ⌝ }
 {
@@ -81,7 +81,8 @@ fn least(a: usize, b: usize) -> usize
     if a < b { a } else { b }
 }
 
-// Writes the bytes of as many floats as both slices have room for, and leaves the rest of `out`.
+// Writes the bytes of as many floats as both slices have room for, and leaves the rest of
+// `out` (R9.17).
 pub fn encode(xs: &[f32], out: &mut [u8])
     ensures { λ _. ⌜ now (out .exit) ≡ written (now (xs .entry)) (now (out .entry)) ⌝ }
 {
