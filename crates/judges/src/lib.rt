@@ -56,7 +56,7 @@ pub(crate) fn judge(s: State, lent: bool, line: bool, turn: bool) -> Answer
     )
 }
 
-// A fresh unit.
+// A fresh unit (R2.20).
 pub fn judge_fresh(rate: u32, frame: usize, store: usize) -> Answer
     ensures { λ r. ⌜ r ≡ judgedFresh wall rate frame store ⌝ }
 {
@@ -67,7 +67,7 @@ pub fn judge_fresh(rate: u32, frame: usize, store: usize) -> Answer
     )
 }
 
-// A reset.
+// A reset (R2.21).
 pub fn judge_reset(s: State, store: usize) -> Answer
     ensures { λ r. ⌜ r ≡ judgedReset wall (ofState s) store ⌝ }
 {
@@ -76,7 +76,7 @@ pub fn judge_reset(s: State, store: usize) -> Answer
     judge(s, store_ok(frame, store), true, !busy)
 }
 
-// A whole tail, its output not judged yet.
+// A whole tail, its output not judged yet (R2.23).
 pub fn judge_tail(s: State, store: usize, work: usize, output: usize) -> Answer
     ensures { λ r. ⌜ r ≡ judgedTail wall (ofState s) store work output ⌝ }
 {
@@ -85,7 +85,7 @@ pub fn judge_tail(s: State, store: usize, work: usize, output: usize) -> Answer
     judge(s, lent_ok(frame, store, work, output), true, !busy)
 }
 
-// A whole apply, its output not judged yet.
+// A whole apply, its output not judged yet (R2.22).
 pub fn judge_apply(
     s: State,
     t: Times,

@@ -23,7 +23,7 @@ ghost use Rattle.unit.specs.UnitState.{ofState};
 ghost use Rattle.unit.specs.Model.{wall};
 ghost use Rattle.judges.specs.Turns.{judgedOpenApply, judgedOpenTail, judgedRead, judgedMix, judgedLine, judgedOutput, judgedClose, judgedAbandon};
 
-// A frame of input to be opened.
+// A frame of input to be opened (R2.24).
 pub fn judge_open_apply(
     s: State,
     t: Times,
@@ -44,7 +44,7 @@ pub fn judge_open_apply(
     )
 }
 
-// A frame of the tail to be opened.
+// A frame of the tail to be opened (R2.25).
 pub fn judge_open_tail(s: State, store: usize, work: usize) -> Answer
     ensures { λ r. ⌜ r ≡ judgedOpenTail wall (ofState s) store work ⌝ }
 {
@@ -58,7 +58,7 @@ pub fn judge_open_tail(s: State, store: usize, work: usize) -> Answer
     )
 }
 
-// A line to be read.
+// A line to be read (R2.26).
 pub fn judge_read(s: State, line: usize, store: usize, work: usize) -> Answer
     ensures { λ r. ⌜ r ≡ judgedRead wall (ofState s) line store work ⌝ }
 {
@@ -73,7 +73,7 @@ pub fn judge_read(s: State, line: usize, store: usize, work: usize) -> Answer
     )
 }
 
-// The lines read to be mixed.
+// The lines read to be mixed (R2.27).
 pub fn judge_mix(s: State, work: usize) -> Answer
     ensures { λ r. ⌜ r ≡ judgedMix wall (ofState s) work ⌝ }
 {
@@ -84,7 +84,7 @@ pub fn judge_mix(s: State, work: usize) -> Answer
     judge(s, work_ok(frame, work), true, and(busy, turn))
 }
 
-// A line mixed to go through its bands.
+// A line mixed to go through its bands (R2.28).
 pub fn judge_line(s: State, line: usize, work: usize) -> Answer
     ensures { λ r. ⌜ r ≡ judgedLine wall (ofState s) line work ⌝ }
 {
@@ -95,7 +95,7 @@ pub fn judge_line(s: State, line: usize, work: usize) -> Answer
     judge(s, work_ok(frame, work), line < LINES, and(busy, turn))
 }
 
-// The output to be made. It waits for the reads alone.
+// The output to be made. It waits for the reads alone (R2.29).
 pub fn judge_output(s: State, work: usize) -> Answer
     ensures { λ r. ⌜ r ≡ judgedOutput wall (ofState s) work ⌝ }
 {
@@ -106,7 +106,7 @@ pub fn judge_output(s: State, work: usize) -> Answer
     judge(s, work_ok(frame, work), true, and(busy, turn))
 }
 
-// A frame to be closed, its numbers not judged yet.
+// A frame to be closed, its numbers not judged yet (R2.30).
 pub fn judge_close(s: State, store: usize, work: usize, output: usize) -> Answer
     ensures { λ r. ⌜ r ≡ judgedClose wall (ofState s) store work output ⌝ }
 {
@@ -121,7 +121,7 @@ pub fn judge_close(s: State, store: usize, work: usize, output: usize) -> Answer
     )
 }
 
-// A frame to be abandoned.
+// A frame to be abandoned (R2.31).
 pub fn judge_abandon(s: State, work: usize) -> Answer
     ensures { λ r. ⌜ r ≡ judgedAbandon wall (ofState s) work ⌝ }
 {

@@ -44,7 +44,7 @@ use samples::Answer;
 use samples::Frames;
 use samples::Samples;
 
-// All that the unit keeps beside its store. `busy` says that a frame is open; `tail`, `marks`,
+// All that the unit keeps beside its store (R1.26). `busy` says that a frame is open; `tail`, `marks`,
 // `next` and `before` are held for that frame alone.
 #[repr(C)]
 pub struct State {
@@ -61,7 +61,7 @@ pub struct State {
     pub before: [Filter; FILTERS],
 }
 
-// The state of a unit in which nothing has sounded yet.
+// The state of a unit in which nothing has sounded yet (R1.32).
 pub fn fresh_state(rate: u32, frame: usize) -> State
     ensures { λ r. ⌜ r ≡ toState (freshUnit wall rate frame) ⌝ }
 {
@@ -92,7 +92,7 @@ pub struct Outcome {
     pub state: State,
 }
 
-// The outcome of a call that leaves no tail to wait for.
+// The outcome of a call that leaves no tail to wait for (R2.35).
 pub fn quiet(answer: Answer, state: State) -> Outcome
     ensures { λ r. ⌜ r ≡ outcome answer (ofState state) TailComplete ⌝ }
 {

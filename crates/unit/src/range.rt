@@ -17,7 +17,7 @@ ghost use Rattle.unit.specs.UnitState.{ofState};
 ghost use Rattle.unit.specs.Model.{wall};
 ghost use Rattle.unit.specs.Range.{below, cursorsIn, isZero, unmarked, blankFilters, blankOpen, inRange};
 
-// Whether a state is one that the unit's calls take.
+// Whether a state is one that the unit's calls take (R1.27).
 pub fn in_range(s: State) -> bool
     ensures { λ r. ⌜ r ≡ inRange wall (ofState s) ⌝ }
 {

@@ -15,7 +15,7 @@ ghost use Rattle.unit.specs.Sizes.{lengthsOf};
 ghost use Rattle.unit.specs.Room.{ringsHold, lentFor, roomOk};
 
 // Whether the store, the work memory and the output have the lengths that a unit of frames of `frame`
-// samples asks.
+// samples asks (R1.19, R1.21, R1.25).
 pub fn lent_ok(frame: usize, store: usize, work: usize, output: usize) -> bool
     ensures { λ r. ⌜ r ≡ lentFor wall frame (lengthsOf wall frame) store work output ⌝ }
 {
@@ -26,7 +26,7 @@ pub fn lent_ok(frame: usize, store: usize, work: usize, output: usize) -> bool
 }
 
 // Whether rings of the lengths `ls` can hold a frame of `frame` samples, and none is too long for a
-// ring.
+// ring (R1.4).
 pub fn rings_hold(frame: usize, ls: [usize; LINES]) -> bool
     ensures { λ r. ⌜ r ≡ ringsHold frame ls ⌝ }
 {
@@ -39,7 +39,7 @@ pub fn rings_hold(frame: usize, ls: [usize; LINES]) -> bool
 }
 
 // Whether a frame of `frame` samples can be played: on lines of the lengths `ls` with the cursors `cs`,
-// on allpass rings with `qs`, and in memory of these lengths.
+// on allpass rings with `qs`, and in memory of these lengths (R3.37).
 pub fn room_ok(
     frame: usize,
     ls: [usize; LINES],

@@ -14,7 +14,7 @@ ghost use Rattle.unit.specs.Model.{wall};
 ghost use Rattle.unit.specs.Sizes.{lengthsOf, storeLen, workLen};
 
 // The lengths of the lines' rings in a unit of frames of `frame` samples. There is no such unit where
-// `frame` is out of range, and no ring.
+// `frame` is out of range, and no ring (R1.10).
 pub fn lengths(frame: usize) -> [usize; LINES]
     ensures { λ r. ⌜ r ≡ cond (frameOk frame) (lengthsOf wall frame) (replicate (wall .lines) 0) ⌝ }
 {
@@ -36,14 +36,14 @@ fn lengths_of(frame: usize) -> [usize; LINES]
     ls
 }
 
-// Whether a store has the length that a unit of frames of `frame` samples asks.
+// Whether a store has the length that a unit of frames of `frame` samples asks (R1.19).
 pub fn store_ok(frame: usize, store: usize) -> bool
     ensures { λ r. ⌜ r ≡ eqb store (storeLen wall (lengthsOf wall frame)) ⌝ }
 {
     is_sum(store, DELAYS_AND_RINGS, LINES, frame)
 }
 
-// Whether a work memory has the length that frames of `frame` samples ask.
+// Whether a work memory has the length that frames of `frame` samples ask (R1.21).
 pub fn work_ok(frame: usize, work: usize) -> bool
     ensures { λ r. ⌜ r ≡ eqb work (workLen wall frame) ⌝ }
 {
@@ -51,7 +51,7 @@ pub fn work_ok(frame: usize, work: usize) -> bool
 }
 
 // Whether a store holds lines' rings of the lengths `ls`, and then the allpass rings: each ring is taken
-// off what is left of it.
+// off what is left of it (R1.20).
 pub fn is_store(ls: [usize; LINES], store: usize) -> bool
     ensures { λ r. ⌜ r ≡ eqb store (storeLen wall ls) ⌝ }
 {
