@@ -46,7 +46,7 @@ pub struct Stepped {
 // A whole frame of the wall unit, through the filters `fs` and on its rings. The work memory begins with
 // the input, which a tail doesn't add.
 // Where all of it is finite the frame is put into the store and the output. The work memory is cleared.
-// Where the memory lent has no room for it nothing is done.
+// Where the memory lent has no room for it nothing is done (R4.2).
 pub fn run_frame(
     f: usize,
     rings: Rings,
@@ -128,7 +128,7 @@ fn moved_on(ok: bool, f: usize, rings: Rings, fs: [Filter; FILTERS]) -> Stepped
 
 // The end of a frame that lies in the work memory: where all of it is finite, it is put into the
 // store and the output. The work memory is cleared. Where the memory lent has no room for a frame
-// nothing is done.
+// nothing is done (R5.21 to R5.23).
 pub fn close_frame(
     f: usize,
     rings: Rings,

@@ -24,7 +24,7 @@ ghost use Rattle.outputs.specs.Steps.{outputMade, outputAfter};
 ghost use Rattle.outputs.specs.Parts.{outputLaid, outputEnds};
 
 // Step 5 of n lines: `rows` are n rows read, n mixed, the output and the allpass rings, whose lengths
-// are `ps`. Gives the filters after it. Where the rows don't fit nothing is done.
+// are `ps`. Gives the filters after it. Where the rows don't fit nothing is done (R4.10 to R4.12).
 pub fn output_row(
     n: usize,
     f: usize,
@@ -44,7 +44,7 @@ pub fn output_row(
 }
 
 // Step 5 on a work memory that holds the rows read and the allpass rings: makes the output, and gives
-// the filters after it. On memory that isn't one of such frames nothing is done.
+// the filters after it. On memory that isn't one of such frames nothing is done (R5.14).
 pub fn make_output(
     f: usize,
     qs: [Cursors; 4],

@@ -46,7 +46,7 @@ fn with_three(k: usize, b: Bands, fs: [Filter; FILTERS]) -> [Filter; FILTERS]
 }
 
 // Filters a row by the three filters from k on, and gives the filters after it. Where there are no
-// three nothing is done.
+// three nothing is done (R3.25).
 pub fn three_at(k: usize, fs: [Filter; FILTERS], row: &mut [f32]) -> [Filter; FILTERS]
     ensures { λ r. ⌜ r ≡ cond (leb k (3 * wall .lines)) (over k (threeOf (bandsEnd (three k fs) (now (row .entry)))) fs) fs ⌝ }
     ensures { λ _. ⌜ now (row .exit) ≡ cond (leb k (3 * wall .lines)) (bandsOut (three k fs) (now (row .entry))) (now (row .entry)) ⌝ }

@@ -27,7 +27,7 @@ pub(crate) fn lines_fit(n: usize, f: usize, len: usize) -> bool
     len == f + n * f + n * f
 }
 
-// Whole rows read, mixed and of the output, and the allpass rings.
+// Whole rows read, mixed and of the output, and the allpass rings (R3.37).
 pub fn output_fits(n: usize, f: usize, ps: [usize; 4], len: usize) -> bool
     ensures { λ r. ⌜ r ≡ outputFits n f ps len ⌝ }
 {
@@ -55,7 +55,7 @@ fn sum_to(ps: [usize; 4], len: usize) -> bool
     rest == 0
 }
 
-// A work memory of frames of f samples.
+// A work memory of frames of f samples (R3.37).
 pub fn work_for(f: usize, work: usize) -> bool
     ensures { λ r. ⌜ r ≡ workFor wall f work ⌝ }
 {

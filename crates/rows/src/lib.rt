@@ -35,7 +35,7 @@ ghost use Rattle.rows.specs.Steps.{linesIn, linesLaid, linesEnds};
 ghost use Rattle.rows.specs.Parts.{lineLaid, lineEnds};
 
 // Steps 3 and 4 of n lines: `rows` are the input and n rows read, and after them come n to put. Gives
-// the filters after them. Where the rows don't fit nothing is done.
+// the filters after them. Where the rows don't fit nothing is done (R4.6 to R4.9).
 pub fn line_rows(
     n: usize,
     f: usize,
@@ -74,7 +74,7 @@ fn lines_in(
 }
 
 // Step 4 of line i on a work memory that holds the input and the rows mixed: makes the row to put, and
-// gives the filters after it. On memory that isn't one of such frames nothing is done.
+// gives the filters after it. On memory that isn't one of such frames nothing is done (R5.13).
 pub fn make_line(
     i: usize,
     f: usize,

@@ -16,7 +16,7 @@ ghost use Rattle.rows.specs.Workers.{WorkFits};
 ghost use Rattle.rows.specs.Reads.{readLaid, lineRoom};
 
 // Step 2 of line i of lines' rings of the lengths `ls`, its cursors `c`: reads its row into the work
-// memory. On a store or a work memory that isn't one of such frames nothing is done.
+// memory. On a store or a work memory that isn't one of such frames nothing is done (R5.11).
 pub fn read_line(
     i: usize,
     f: usize,

@@ -10,7 +10,7 @@ ghost use Rattle.stages.specs.Lines.{plus};
 ghost use Rattle.stages.specs.Settle.{filtersFinite};
 ghost use Rattle.stages.specs.Steps.{addedFirst, divided, copied};
 
-// Adds the first f samples of a stretch to its last f, where it has room for both.
+// Adds the first f samples of a stretch to its last f, where it has room for both (R4.8, R4.10).
 pub fn add_first(rows: &mut [f32], f: usize)
     ensures { λ _. ⌜ now (rows .exit) ≡ addedFirst f (now (rows .entry)) ⌝ }
 {
@@ -30,7 +30,7 @@ fn add_at(rows: &mut [f32], f: usize, at: usize)
     }
 }
 
-// Divides every sample.
+// Divides every sample (R4.10).
 pub fn divide(xs: &mut [f32], divisor: f32)
     ensures { λ _. ⌜ now (xs .exit) ≡ divided divisor (now (xs .entry)) ⌝ }
 {
@@ -56,7 +56,7 @@ fn shorter(a: usize, b: usize) -> usize
     if a < b { a } else { b }
 }
 
-// Whether all numbers of all filters are finite.
+// Whether all numbers of all filters are finite (R4.14).
 pub fn filters_finite(fs: [Filter; FILTERS]) -> bool
     ensures { λ r. ⌜ r ≡ filtersFinite fs ⌝ }
 {
