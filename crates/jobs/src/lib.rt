@@ -26,7 +26,7 @@ ghost use Rattle.unit.specs.Model.{wall};
 ghost use Rattle.machine.specs.Ending.{lend, given};
 ghost use Rattle.machine.specs.Jobs.{readJob, mixJob, lineJob, outputJob, done};
 
-// Reads a frame of a line.
+// Reads a frame of a line (R2.26, R5.11).
 pub fn job_read(s: State, line: usize, store: &[f32], work: &mut [f32]) -> Outcome
     ensures { λ r. ⌜ r ≡ given (done wall (lend s (now (store .entry)) (now (work .entry))) (readJob line)) ⌝ }
     ensures { λ _. ⌜ now (work .exit) ≡ done wall (lend s (now (store .entry)) (now (work .entry))) (readJob line) .memory .work ⌝ }
@@ -44,7 +44,7 @@ pub fn job_read(s: State, line: usize, store: &[f32], work: &mut [f32]) -> Outco
     quiet(answer, marked(s, line, fs))
 }
 
-// Mixes the lines read.
+// Mixes the lines read (R2.27, R5.12).
 pub fn job_mix(s: State, work: &mut [f32]) -> Outcome
     ensures { λ r. ⌜ r ≡ given (done wall (lend s [] (now (work .entry))) mixJob) ⌝ }
     ensures { λ _. ⌜ now (work .exit) ≡ done wall (lend s [] (now (work .entry))) mixJob .memory .work ⌝ }
@@ -59,7 +59,7 @@ pub fn job_mix(s: State, work: &mut [f32]) -> Outcome
     quiet(answer, marked(s, MIX_MARK, fs))
 }
 
-// Sends a line mixed through its bands, and adds the input to it unless in a tail.
+// Sends a line mixed through its bands, and adds the input to it unless in a tail (R2.28, R5.13).
 pub fn job_line(s: State, line: usize, work: &mut [f32]) -> Outcome
     ensures { λ r. ⌜ r ≡ given (done wall (lend s [] (now (work .entry))) (lineJob line)) ⌝ }
     ensures { λ _. ⌜ now (work .exit) ≡ done wall (lend s [] (now (work .entry))) (lineJob line) .memory .work ⌝ }
@@ -75,7 +75,7 @@ pub fn job_line(s: State, line: usize, work: &mut [f32]) -> Outcome
     quiet(answer, marked(s, LINE_MARK + line, gs))
 }
 
-// Makes the output of the lines read.
+// Makes the output of the lines read (R2.29, R5.14).
 pub fn job_output(s: State, work: &mut [f32]) -> Outcome
     ensures { λ r. ⌜ r ≡ given (done wall (lend s [] (now (work .entry))) outputJob) ⌝ }
     ensures { λ _. ⌜ now (work .exit) ≡ done wall (lend s [] (now (work .entry))) outputJob .memory .work ⌝ }

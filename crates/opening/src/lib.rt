@@ -21,7 +21,7 @@ ghost use Rattle.machine.specs.Ending.{lend, given};
 ghost use Rattle.machine.specs.Whole as Play;
 ghost use Rattle.machine.specs.Jobs.{opened};
 
-// Begins a frame of input, to be done as jobs.
+// Begins a frame of input, to be done as jobs (R2.24, R5.6 to R5.8).
 pub fn open_apply(
     s: State,
     t: Times,
@@ -46,7 +46,7 @@ pub fn open_apply(
     quiet(answer, opened(s, false, fs, tail.count))
 }
 
-// Begins a frame after the input has ended, to be done as jobs.
+// Begins a frame after the input has ended, to be done as jobs (R2.25, R5.6 to R5.8).
 pub fn open_tail(s: State, store: &[f32], work: &mut [f32]) -> Outcome
     ensures { λ r. ⌜ r ≡ given (opened wall (lend s (now (store .entry)) (now (work .entry))) Play.tail) ⌝ }
     ensures { λ _. ⌜ now (work .exit) ≡ opened wall (lend s (now (store .entry)) (now (work .entry))) Play.tail .memory .work ⌝ }

@@ -12,7 +12,8 @@ ghost use Rattle.unit.specs.Sizes.{filtersLen, coefficientsLen};
 ghost use Rattle.unit.specs.Fresh.{blank};
 ghost use Rattle.stages.specs.Lines.{filtersOf};
 
-// The filters of the given coefficients, with no history. Of another number of them they are blank.
+// The filters of the given coefficients, with no history. Of another number of them they are
+// blank (R4.3, R3.38).
 pub fn filters_of(coefficients: &[f32]) -> [Filter; FILTERS]
     ensures { λ r. ⌜ r ≡ cond (eqb (length (now (coefficients .entry))) (coefficientsLen wall)) (filtersOf (filtersLen wall) (now (coefficients .entry))) (replicate (filtersLen wall) blank) ⌝ }
 {

@@ -28,7 +28,7 @@ ghost use Rattle.machine.specs.Ending.{lend, given};
 ghost use Rattle.machine.specs.Whole as Play;
 ghost use Rattle.machine.specs.Whole.{begun, silenced, atOnce};
 
-// A unit in which nothing has sounded yet, and its store cleared.
+// A unit in which nothing has sounded yet, and its store cleared (R2.20, R4.24).
 pub fn fresh(rate: u32, frame: usize, store: &mut [f32]) -> Outcome
     ensures { λ r. ⌜ r ≡ given (begun wall rate frame (now (store .entry))) ⌝ }
     ensures { λ _. ⌜ now (store .exit) ≡ begun wall rate frame (now (store .entry)) .memory .store ⌝ }
@@ -42,7 +42,8 @@ pub fn fresh(rate: u32, frame: usize, store: &mut [f32]) -> Outcome
     quiet(answer, fresh_state(rate, frame))
 }
 
-// Silences the unit: its store is cleared and no tail is left. Cursors and filters stay.
+// Silences the unit: its store is cleared and no tail is left. Cursors and filters
+// stay (R2.21, R4.25).
 pub fn reset(s: State, store: &mut [f32]) -> Outcome
     ensures { λ r. ⌜ r ≡ given (silenced wall (lend s (now (store .entry)) [])) ⌝ }
     ensures { λ _. ⌜ now (store .exit) ≡ silenced wall (lend s (now (store .entry)) []) .memory .store ⌝ }
@@ -59,7 +60,7 @@ pub fn reset(s: State, store: &mut [f32]) -> Outcome
 }
 
 // A frame of input: the lines sound through filters of the given coefficients, the input is added to
-// each, and the tail that is to come is counted by the times.
+// each, and the tail that is to come is counted by the times (R2.22, R4.1 to R4.23).
 pub fn apply(
     s: State,
     t: Times,
@@ -95,7 +96,7 @@ pub fn apply(
 }
 
 // A frame after the input has ended: the lines go on sounding through the filters kept, and one frame
-// less is to come.
+// less is to come (R2.23, R4.1 to R4.23).
 pub fn tail(s: State, store: &mut [f32], work: &mut [f32], output: &mut [f32]) -> Outcome
     ensures { λ r. ⌜ r ≡ given (atOnce wall (lend s (now (store .entry)) (now (work .entry))) Play.tail (now (output .entry))) ⌝ }
     ensures { λ _. ⌜ now (store .exit) ≡ atOnce wall (lend s (now (store .entry)) (now (work .entry))) Play.tail (now (output .entry)) .memory .store ⌝ }
