@@ -9,7 +9,7 @@ ghost use Rattle.audio_buffer.specs.Layout.{interleaved, deinterleaved};
 ghost use Rattle.levels.specs.Judges.{judged, judgedDownmix};
 ghost use Rattle.levels.specs.Levels.{scaled, mixed, downmixed};
 
-// Writes a buffer frame after frame.
+// Writes a buffer frame after frame (R7.2).
 #[no_mangle]
 pub extern "C" fn hall_interleave(
     channels: usize,
@@ -23,7 +23,7 @@ pub extern "C" fn hall_interleave(
     number(audio_buffer::write_interleaved(channels, samples, buffer, target))
 }
 
-// Reads a buffer that lies frame after frame.
+// Reads a buffer that lies frame after frame (R7.3).
 #[no_mangle]
 pub extern "C" fn hall_deinterleave(
     channels: usize,
@@ -37,7 +37,7 @@ pub extern "C" fn hall_deinterleave(
     number(audio_buffer::read_interleaved(channels, samples, source, buffer))
 }
 
-// Sets every sample of a buffer to +0.
+// Sets every sample of a buffer to +0 (R7.4).
 #[no_mangle]
 pub extern "C" fn hall_make_silent(channels: usize, samples: usize, buffer: &mut [f32]) -> u32
     ensures { λ r. ⌜ r ≡ numberOf (judged channels samples (length (now (buffer .entry)))) ⌝ }
@@ -46,7 +46,7 @@ pub extern "C" fn hall_make_silent(channels: usize, samples: usize, buffer: &mut
     number(levels::make_silent(channels, samples, buffer))
 }
 
-// Multiplies every sample of a buffer by a volume.
+// Multiplies every sample of a buffer by a volume (R7.5).
 #[no_mangle]
 pub extern "C" fn hall_scale(
     channels: usize,
@@ -60,7 +60,7 @@ pub extern "C" fn hall_scale(
     number(levels::scale(channels, samples, volume, buffer))
 }
 
-// Adds a buffer to another.
+// Adds a buffer to another (R7.6).
 #[no_mangle]
 pub extern "C" fn hall_buffer_mix(
     channels: usize,
@@ -74,7 +74,7 @@ pub extern "C" fn hall_buffer_mix(
     number(levels::mix(channels, samples, buffer, other))
 }
 
-// Brings a buffer down to one channel, the mean of its channels.
+// Brings a buffer down to one channel, the mean of its channels (R7.7).
 #[no_mangle]
 pub extern "C" fn hall_downmix(
     channels: usize,
@@ -88,7 +88,7 @@ pub extern "C" fn hall_downmix(
     number(levels::downmix(channels, samples, buffer, output))
 }
 
-// Judges the request for one channel of a buffer that is `length` samples long.
+// Judges the request for one channel of a buffer that is `length` samples long (R7.13).
 #[no_mangle]
 pub extern "C" fn hall_channel_number(
     channels: usize,

@@ -11,7 +11,7 @@ ghost use Rattle.machine.specs.Whole as Play;
 ghost use Rattle.machine.specs.Jobs.{opened, readJob, mixJob, lineJob, outputJob, done, closed, abandoned};
 ghost use Rattle.hall.specs.Face.{faced, times};
 
-// Begins a frame of input, to be done as jobs.
+// Begins a frame of input, to be done as jobs (R2.24, R5.6 to R5.8).
 #[no_mangle]
 pub extern "C" fn hall_open_apply(
     s: State,
@@ -34,7 +34,7 @@ pub extern "C" fn hall_open_apply(
     faced(opening::open_apply(s, t, coefficients, input, store, work))
 }
 
-// Begins a frame after the input has ended, to be done as jobs.
+// Begins a frame after the input has ended, to be done as jobs (R2.25, R5.6 to R5.8).
 #[no_mangle]
 pub extern "C" fn hall_open_tail(s: State, store: &[f32], work: &mut [f32]) -> HallAnswer
     ensures { λ r. ⌜ r ≡ faced (given (opened wall (lend s (now (store .entry)) (now (work .entry))) Play.tail)) ⌝ }
@@ -43,7 +43,7 @@ pub extern "C" fn hall_open_tail(s: State, store: &[f32], work: &mut [f32]) -> H
     faced(opening::open_tail(s, store, work))
 }
 
-// Reads a frame of a line.
+// Reads a frame of a line (R2.26, R5.11).
 #[no_mangle]
 pub extern "C" fn hall_job_read(
     s: State,
@@ -57,7 +57,7 @@ pub extern "C" fn hall_job_read(
     faced(jobs::job_read(s, line, store, work))
 }
 
-// Mixes the lines read.
+// Mixes the lines read (R2.27, R5.12).
 #[no_mangle]
 pub extern "C" fn hall_job_mix(s: State, work: &mut [f32]) -> HallAnswer
     ensures { λ r. ⌜ r ≡ faced (given (done wall (lend s [] (now (work .entry))) mixJob)) ⌝ }
@@ -66,7 +66,7 @@ pub extern "C" fn hall_job_mix(s: State, work: &mut [f32]) -> HallAnswer
     faced(jobs::job_mix(s, work))
 }
 
-// Sends a line mixed through its bands, and adds the input to it unless in a tail.
+// Sends a line mixed through its bands, and adds the input to it unless in a tail (R2.28, R5.13).
 #[no_mangle]
 pub extern "C" fn hall_job_line(s: State, line: usize, work: &mut [f32]) -> HallAnswer
     ensures { λ r. ⌜ r ≡ faced (given (done wall (lend s [] (now (work .entry))) (lineJob line))) ⌝ }
@@ -75,7 +75,7 @@ pub extern "C" fn hall_job_line(s: State, line: usize, work: &mut [f32]) -> Hall
     faced(jobs::job_line(s, line, work))
 }
 
-// Makes the output of the lines read.
+// Makes the output of the lines read (R2.29, R5.14).
 #[no_mangle]
 pub extern "C" fn hall_job_output(s: State, work: &mut [f32]) -> HallAnswer
     ensures { λ r. ⌜ r ≡ faced (given (done wall (lend s [] (now (work .entry))) outputJob)) ⌝ }
@@ -85,7 +85,7 @@ pub extern "C" fn hall_job_output(s: State, work: &mut [f32]) -> HallAnswer
 }
 
 // Ends a frame of which every job is done: puts its rows into the lines, writes the output, moves the
-// cursors and sets the count, unless a number of it isn't finite.
+// cursors and sets the count, unless a number of it isn't finite (R2.30, R5.20 to R5.27).
 #[no_mangle]
 pub extern "C" fn hall_close(
     s: State,
@@ -101,7 +101,7 @@ pub extern "C" fn hall_close(
     faced(closing::close(s, store, work, output))
 }
 
-// Gives an open frame up: the unit is as it was before, and the work memory is cleared.
+// Gives an open frame up: the unit is as it was before, and the work memory is cleared (R2.31, R5.28).
 #[no_mangle]
 pub extern "C" fn hall_abandon(s: State, work: &mut [f32]) -> HallAnswer
     ensures { λ r. ⌜ r ≡ faced (given (abandoned wall (lend s [] (now (work .entry))))) ⌝ }

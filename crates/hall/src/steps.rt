@@ -7,7 +7,7 @@ ghost use Rattle.samples.specs.Answers.{numberOf, accept};
 ghost use Rattle.iir.specs.Runs.{runOut, runEnd};
 ghost use Rattle.hadamard.specs.Mix.{mixed, quarter, judgedSample};
 
-// Filters a row in place, and gives the filter after it.
+// Filters a row in place, and gives the filter after it (R3.24).
 #[no_mangle]
 pub extern "C" fn hall_filter_run(f: Filter, xs: &mut [f32]) -> Filter
     ensures { λ r. ⌜ r ≡ runEnd f (now (xs .entry)) ⌝ }
@@ -16,7 +16,7 @@ pub extern "C" fn hall_filter_run(f: Filter, xs: &mut [f32]) -> Filter
     iir::run(f, xs)
 }
 
-// Mixes one sample of each of sixteen lines.
+// Mixes one sample of each of sixteen lines (R3.29).
 #[no_mangle]
 pub extern "C" fn hall_mix16(x: &[f32], y: &mut [f32]) -> u32
     ensures { λ r. ⌜ r ≡ numberOf (judgedSample (length (now (x .entry))) (length (now (y .entry)))) ⌝ }

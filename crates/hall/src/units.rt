@@ -11,7 +11,7 @@ ghost use Rattle.machine.specs.Whole as Play;
 ghost use Rattle.machine.specs.Whole.{begun, silenced, atOnce};
 ghost use Rattle.hall.specs.Face.{faced, times};
 
-// A unit in which nothing has sounded yet, and its store cleared.
+// A unit in which nothing has sounded yet, and its store cleared (R2.20, R4.24).
 #[no_mangle]
 pub extern "C" fn hall_fresh(rate: u32, frame: usize, store: &mut [f32]) -> HallAnswer
     ensures { λ r. ⌜ r ≡ faced (given (begun wall rate frame (now (store .entry)))) ⌝ }
@@ -20,7 +20,8 @@ pub extern "C" fn hall_fresh(rate: u32, frame: usize, store: &mut [f32]) -> Hall
     faced(reverb::fresh(rate, frame, store))
 }
 
-// Silences the unit: its store is cleared and no tail is left. Cursors and filters stay.
+// Silences the unit: its store is cleared and no tail is left. Cursors and filters
+// stay (R2.21, R4.25).
 #[no_mangle]
 pub extern "C" fn hall_reset(s: State, store: &mut [f32]) -> HallAnswer
     ensures { λ r. ⌜ r ≡ faced (given (silenced wall (lend s (now (store .entry)) []))) ⌝ }
@@ -30,7 +31,7 @@ pub extern "C" fn hall_reset(s: State, store: &mut [f32]) -> HallAnswer
 }
 
 // A frame of input: the lines sound through filters of the given coefficients, the input is added to
-// each, and the tail that is to come is counted by the times.
+// each, and the tail that is to come is counted by the times (R2.22, R4).
 #[no_mangle]
 pub extern "C" fn hall_apply(
     s: State,
@@ -57,7 +58,7 @@ pub extern "C" fn hall_apply(
 }
 
 // A frame after the input has ended: the lines go on sounding through the filters kept, and one frame
-// less is to come.
+// less is to come (R2.23, R4).
 #[no_mangle]
 pub extern "C" fn hall_tail(
     s: State,

@@ -17,7 +17,7 @@ ghost use Rattle.unit.specs.UnitState.{ofState};
 ghost use Rattle.machine.specs.Ending.{given};
 ghost use Rattle.shell.specs.Frames.{inputEnds, tailEnds, said};
 
-// A frame of input. The row of the output begins as +0, and a refused call leaves it.
+// A frame of input. The row of the output begins as +0, and a refused call leaves it (R9.5 to R9.9).
 pub fn input_frame(
     s: State,
     bytes: &[u8],
@@ -46,7 +46,7 @@ pub fn input_frame(
     a
 }
 
-// A frame of the tail, likewise.
+// A frame of the tail, likewise (R9.8, R9.9).
 pub fn tail_frame(
     s: State,
     store: &mut [f32; STORE],

@@ -24,7 +24,7 @@ pub const STORE: usize = 9648;
 // And how many of work memory.
 pub const WORK: usize = 5700;
 
-// The three reverb times.
+// The three reverb times (R9.1).
 pub fn times() -> Times
     ensures { λ r. ⌜ r ≡ times ⌝ }
 {
@@ -42,7 +42,7 @@ fn b0(k: usize) -> f32
     if and(k < 48, k % 3 == 0) { 0.5 } else { 1.0 }
 }
 
-// The coefficients of all filters, five each.
+// The coefficients of all filters, five each (R9.3).
 pub fn coefficients() -> [f32; 255]
     ensures { λ r. ⌜ r ≡ coefficients ⌝ }
 {
@@ -53,7 +53,7 @@ pub fn coefficients() -> [f32; 255]
     cs
 }
 
-// The program's unit, in which nothing has sounded yet.
+// The program's unit, in which nothing has sounded yet (R9.1).
 pub fn start(store: &mut [f32; STORE]) -> Outcome
     ensures { λ r. ⌜ r ≡ outcome Accepted (freshUnit wall rate frame) TailComplete ⌝ }
     ensures { λ _. ⌜ now (store .exit) ≡ replicate storeFloats +0 ⌝ }
@@ -61,7 +61,7 @@ pub fn start(store: &mut [f32; STORE]) -> Outcome
     reverb::fresh(48000, 128, store)
 }
 
-// How many tail calls a count asks for.
+// How many tail calls a count asks for (R9.11).
 pub fn tail_calls(count: Frames) -> u32
     ensures { λ r. ⌜ r ≡ calls (count .0) ⌝ }
 {

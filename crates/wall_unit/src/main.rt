@@ -19,7 +19,7 @@ struct Went {
 }
 
 // One read: how many bytes came, none at the input's end. A read that fails is said, and ends the
-// input.
+// input (R9.15).
 fn get_some(bytes: &mut [u8]) -> usize
     ensures { λ r. ⌜ r ≤ length (now (bytes .entry)) ⌝ }
 {
@@ -45,7 +45,7 @@ fn get(bytes: &mut [u8]) -> usize
     n
 }
 
-// Writes a frame. A write that fails is said.
+// Writes a frame. A write that fails is said (R9.15).
 fn put(out: &[u8; 512]) -> bool {
     let written = io::write_all(STDOUT_FILENO, out);
     if !written {
@@ -54,7 +54,7 @@ fn put(out: &[u8; 512]) -> bool {
     written
 }
 
-// A frame of input. The last may be short, and fewer bytes than a sample's are none.
+// A frame of input (R9.5). The last may be short, and fewer bytes than a sample's are none (R9.7).
 fn turn(s: State, store: &mut [f32; STORE], work: &mut [f32; WORK]) -> Went {
     let mut bytes = [0u8; 512];
     let n = get(&mut bytes);
@@ -111,7 +111,7 @@ fn tail_turn(s: State, store: &mut [f32; STORE], work: &mut [f32; WORK]) -> Went
     }
 }
 
-// So many frames of the tail, or fewer where one can't be written.
+// So many frames of the tail (R9.13), or fewer where one can't be written.
 fn tails(s: State, calls: u32, store: &mut [f32; STORE], work: &mut [f32; WORK]) {
     let mut state = s;
     let mut left = calls;
