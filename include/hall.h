@@ -44,16 +44,16 @@
  * was given and leaves every lent slice as it was, 9 aside.
  *
  *   0  accepted.
- *   1  the state is out of range (R1.27), or a cursor of a ring alone isn't below the ring's length. From
- *      hall_fresh on no call gives such a state: it was changed, or is another HALL_VERSION's. Begin again with
- *      hall_fresh; of a ring alone, set both cursors to 0.
+ *   1  the state is out of range (R1.27): its rate or frame (see 2), a cursor that isn't below its ring's length, or,
+ *      with no frame open, something kept for one. It isn't as a call of this HALL_VERSION gave it: begin again
+ *      with hall_fresh. Of a ring alone: a cursor, be it the one that stays, isn't below the length lent.
  *   2  the rate isn't in 8,000 to 192,000, or the frame no multiple of 4 in 4 to 1,024. Choose others.
  *   3  a lent slice hasn't the length that stands at the call; one that is too long is refused too.
  *   4  a number of the request is out of range: line above 15; a ring's n of 0 or above its length; channels
  *      0 or above 16; samples above 65,536; channel not below the channels; x above 200,000; index above 15.
- *   5  out of turn: a job, close or abandon with no frame open; a reset, a whole call or an open with one open; a
- *      job done before; a job or a close that has to wait. Make the missing jobs first, or hall_abandon.
- *      hall_fresh has no turn: it begins another unit.
+ *   5  out of turn: a job, close or abandon with no frame open; hall_reset, hall_apply, hall_tail or an open
+ *      with one open; a job done before, or before those that it waits for; a close before all 34 jobs. Make
+ *      the missing jobs first, or hall_abandon. hall_fresh takes no state, so that it is never out of turn.
  *   6  a reverb time is no number from 0 to 100.
  *   7  a coefficient isn't finite. Design the filters again.
  *   8  an input sample isn't finite; `index` says which is the first. Mute it and ask again.
