@@ -124,7 +124,7 @@ fn frames() {
             apply(&mut unit(rate, 4), [0.1; 3], &[0.0; 4], &mut [0.0; 4])
         });
     }
-    for length in [1, 3, 5] {
+    for length in [0, 1, 3, 5] {
         see(&format!("input of {length} for a frame of 4"), || {
             apply(&mut unit(8_000, 4), [0.1; 3], &vec![0.0; length], &mut [0.0; 4])
         });
