@@ -19,30 +19,46 @@ use Rattle.samples.specs.declared.Answer.the-variants.{Accepted, BadLength}
 use Rattle.samples.proofs.Laws.{needed, split-and, accept-no, accept-either}
 use Rattle.samples.proofs.Turns.{lt-or-ge}
 use Rattle.delay.specs.declared.Cursors.{Cursors}
+use Rattle.delay.specs.declared.RingAnswer.{RingAnswer}
 use Rattle.delay.specs.Ring.{rotl, wrap, read, write, ahead}
 use Rattle.delay.specs.Calls.{lengthOk, judgedCount, judgedRing, both, readTo, writeTo}
-use Rattle.delay.specs.RingLaw.{Turn, Each, gets, given, RingLaw, RingSample, CursorBelow, Equal, CursorsTogether}
+use Rattle.delay.specs.RingLaw.{Get, getN, get4, Put, putN, put4, Turn, count, samples, Each, gotten, afterGet, ringAfter, afterPut, gets, given, RingLaw, RingSample, CursorBelow, Equal, CursorsTogether}
 use Rattle.delay.proofs.Views.{wrap-less, ahead-less, length-rotl, rotl-same, length-write, turn-view, take-on}
-use Rattle.delay.proofs.Laws.{Ready, judged-ok, ok-judged, count-ok, ok-count, ready-read, fresh-ok, reset-ok}
+use Rattle.delay.proofs.Laws.{Ready, Moves, judged-ok, ok-judged, count-ok, ok-count, ready-read, fresh-ok, reset-ok, get-ok, put-ok, get4-ok, put4-ok}
+
+-- ---- a get of n samples and one of four, and so with a put, do the same on a ring that has as many
+
+got-ok : (ring : List Float) (c : Cursors) (g : Get) → Moves (length ring) c (count g)
+    → (afterGet ring c g ≡ readTo c (wrap (length ring) (c .read .0 + count g))) × (gotten ring c g ≡ take (count g) (rotl (c .read .0) ring))
+unfolding read
+got-ok ring c (getN out) m = let e = get-ok ring out c m in (ap (λ (r : RingAnswer). r .cursors) (e .0), e .1)
+got-ok ring c get4 m = let e = get4-ok ring c (m .ready) (m .fits) in (e .1, e .2)
+
+put-in : (ring : List Float) (c : Cursors) (p : Put) → Moves (length ring) c (length (samples p))
+    → (afterPut (length ring) c p ≡ writeTo c (wrap (length ring) (c .write .0 + length (samples p))))
+    × (ringAfter ring c p ≡ write ring (c .write .0) (samples p))
+put-in ring c (putN xs) m = let e = put-ok ring xs c m in (ap (λ (r : RingAnswer). r .cursors) (e .0), e .1)
+put-in ring c (put4 x) m = let e = put4-ok ring c x (m .ready) (m .fits) in (ap (λ (r : RingAnswer). r .cursors) (e .0), e .1)
 
 -- from any ring, with the cursors equal: the invariant of the turns
 gets-view : (ring : List Float) (k : ℕ) (ts : List Turn) → length ring ≤ 65536 → k < length ring → Each (length ring) ts
     → flatten (gets ring (both k) ts) ≡ take (length (given ts)) (rotl k ring ++ given ts)
-unfolding gets flatten read
+unfolding gets flatten
 gets-view ring k [] s h each = refl
 gets-view ring k (t ∷ ts) s h each =
     let l : ℕ = length ring in
-    let n : ℕ = length (t .put) in
+    let xs : List Float = samples (t .put) in
+    let n : ℕ = length xs in
     let k′ : ℕ = wrap l (k + n) in
     let b : k′ < l = wrap-less l (k + n) (omega (arith, each .2)) in
-    let ring′ : List Float = write ring k (t .put) in
-    let lr : length ring′ ≡ l = length-write ring (t .put) k (each .2) in
+    let ring′ : List Float = write ring k xs in
+    let lr : length ring′ ≡ l = length-write ring xs k (each .2) in
     let r : Ready l (both k) = record { some = omega arith; small = s; reads = h; writes = h } in
-    let g : judgedCount l (both k) n ≡ Accepted = ok-count l (both k) n (record { ready = r; some = each .1; fits = each .2 }) in
-    let p : judgedCount l (readTo (both k) k′) n ≡ Accepted = ok-count l (readTo (both k) k′) n (record { ready = ready-read r b; some = each .1; fits = each .2 }) in
+    let g = rw (each .0) at (got-ok ring (both k) (t .get) (rw (each .0) (record { ready = r; some = each .1; fits = each .2 }))) in
+    let p = put-in ring (readTo (both k) k′) (t .put) (record { ready = ready-read r b; some = each .1; fits = each .2 }) in
     let later : flatten (gets ring′ (both k′) ts) ≡ take (length (given ts)) (rotl k′ ring′ ++ given ts) = gets-view ring′ k′ ts (omega arith) (omega arith) (rw lr (each .3)) in
     let lv : n ≤ length (rotl k ring) = simp length-rotl (each .2) in
-    rw (each .0, g, p, later, turn-view ring (t .put) k h (each .2), length-append) (take-on (rotl k ring) (t .put) (given ts) (length (given ts)) lv)
+    rw (g .0, g .1, p .0, p .1, later, turn-view ring xs k h (each .2), length-append) (take-on (rotl k ring) xs (given ts) (length (given ts)) lv)
 
 -- from a silent one
 from-zeros : (l k : ℕ) (ts : List Turn) → l ≤ 65536 → k < l → Each l ts

@@ -9,7 +9,9 @@ use lib.ListN.{length, getD, take, replicate}
 use Rattle.samples.specs.Binary32.{+0}
 use Rattle.samples.specs.declared.Answer.the-variants.{Accepted}
 use Rattle.delay.specs.declared.Cursors.{Cursors}
-use Rattle.delay.specs.Calls.{freshAnswer, freshRing, resetAnswer, resetRing, getAnswer, getOut, putAnswer, putRing, get4Answer, put4Answer}
+use Rattle.delay.specs.declared.Four.{Four}
+use Rattle.delay.specs.Ring.{listOf}
+use Rattle.delay.specs.Calls.{freshAnswer, freshRing, resetAnswer, resetRing, getAnswer, getOut, putAnswer, putRing, get4Answer, put4Answer, put4Ring}
 
 -- ---- cursors
 
@@ -37,26 +39,63 @@ pub record CursorsTogether : Type 0 where
 
 -- ---- turns
 
--- a turn, a get and a put of the same n: the slice lent to get, whatever it holds, and the samples put
-pub record Turn : Type 0 where
-  pub lent : List Float
-  pub put : List Float
+-- how a turn gets: `get` of as many samples as the slice lent to it takes, whatever that holds, or `get4`
+pub data Get : Type 0 where
+  getN : List Float → Get
+  get4 : Get
 
--- each turn has an n of its own, from 1 to l
+-- how it puts: `put` of samples in a slice, or `put4`
+pub data Put : Type 0 where
+  putN : List Float → Put
+  put4 : Four → Put
+
+-- a turn, a get and then a put of the same n
+pub record Turn : Type 0 where
+  pub get : Get
+  pub put : Put
+
+-- how many samples it gets, and those that it puts
+abbrev pub count : Get → ℕ
+count (getN out) = length out
+count get4 = 4
+
+abbrev pub samples : Put → List Float
+samples (putN xs) = xs
+samples (put4 x) = listOf x
+
+-- each turn has an n of its own, from 1 to l, and one with a `get4` or a `put4` has n = 4
 abbrev pub Each : ℕ → List Turn → Type 0
 Each l [] = Unit {0}
-Each l (t ∷ ts) = (length (t .lent) ≡ length (t .put)) × (1 ≤ length (t .put)) × (length (t .put) ≤ l) × Each l ts
+Each l (t ∷ ts) = (count (t .get) ≡ length (samples (t .put))) × (1 ≤ length (samples (t .put))) × (length (samples (t .put)) ≤ l) × Each l ts
+
+-- what a get hands out, and the cursors that it gives
+abbrev pub gotten : List Float → Cursors → Get → List Float
+gotten ring c (getN out) = getOut ring c out
+gotten ring c get4 = listOf (get4Answer ring c .x)
+
+abbrev pub afterGet : List Float → Cursors → Get → Cursors
+afterGet ring c (getN out) = getAnswer (length ring) c (length out) .cursors
+afterGet ring c get4 = get4Answer ring c .cursors
+
+-- the ring that a put leaves, and the cursors that it gives
+abbrev pub ringAfter : List Float → Cursors → Put → List Float
+ringAfter ring c (putN xs) = putRing ring c xs
+ringAfter ring c (put4 x) = put4Ring ring c x
+
+abbrev pub afterPut : ℕ → Cursors → Put → Cursors
+afterPut l c (putN xs) = putAnswer l c (length xs) .cursors
+afterPut l c (put4 x) = put4Answer l c .cursors
 
 -- what each turn's get hands out, from a ring and its cursors on; its put goes on from the cursors that get gave
 unfoldable pub gets : List Float → Cursors → List Turn → List (List Float)
 gets ring c [] = []
 gets ring c (t ∷ ts) =
-    let c₁ = getAnswer (length ring) c (length (t .lent)) .cursors in
-    getOut ring c (t .lent) ∷ gets (putRing ring c₁ (t .put)) (putAnswer (length ring) c₁ (length (t .put)) .cursors) ts
+    let c₁ = afterGet ring c (t .get) in
+    gotten ring c (t .get) ∷ gets (ringAfter ring c₁ (t .put)) (afterPut (length ring) c₁ (t .put)) ts
 
 -- all samples put, in order
 abbrev pub given : List Turn → List Float
-given ts = flatten (map (λ t. t .put) ts)
+given ts = flatten (map (λ t. samples (t .put)) ts)
 
 -- from a fresh, or from a reset while the cursors are equal: P holds of L, all samples put and all samples got
 abbrev pub FromSilence : (ℕ → List Float → List Float → Type 0) → Type 0

@@ -8,7 +8,7 @@ use lib.IntN.{pos}
 use lib.ListN.{replicate}
 use Rattle.samples.specs.Binary32.{+0}
 use Rattle.delay.specs.Calls.{freshAnswer, freshRing}
-use Rattle.delay.specs.RingLaw.{Turn, gets}
+use Rattle.delay.specs.RingLaw.{getN, putN, Turn, gets}
 use Rattle.iir.specs.Step.{fromCoefficients}
 use Rattle.iir.specs.Runs.{runOut}
 use Rattle.hadamard.specs.Mix.{minus, mixed, quarter}
@@ -47,7 +47,7 @@ abbrev pub thrice : Float → Times
 thrice t = record { low = t; mid = t; high = t }
 
 abbrev pub turn : Float → List ℕ → Turn
-turn v ns = record { lent = replicate 3 v; put = floats ns }
+turn v ns = record { get = getN (replicate 3 v); put = putN (floats ns) }
 
 pub record Examples : Type 0 where
   -- R9.19: signs of the mix
