@@ -4,7 +4,7 @@ use mathlib.Core.Bool.{Bool, true, false, cond, true≢false, _&&_}
 use Prim.Native.Nat.{ℕ, _+_, _-_, _*_, _/_, _^_, _≤_, _<_}
 use native.Mathlib.Nat.{zero-mul, mul-one, one-mul, add-mul, mul-right-comm, div-add-mod', mod-lt, div-eq-of-lt-le, div-lt-iff-lt-mul, lt-of-mul-lt-mul-right, le-of-mul-le-mul-right}
 use native.Mathlib.Omega.{arith}
-use lib.IntN.{pos}
+use lib.IntN.{ℤ, pos}
 use lib.Dec.{T, ltb, eqb, eqb→eq, lit<}
 use lib.Ieee.{Float, nan, inf, fin, binary32, up, down, le, lt, eq, ofBits, ofInt, toUnsigned}
 use lib.Ieee.Fits.{up-pos, down-pos, and-l}
@@ -16,19 +16,23 @@ use Rattle.samples.specs.Sizes.{rateOk, frameOk}
 use Rattle.samples.proofs.Laws.{split-and, needed, accept-either, Rate, rate-of, Frame, frame-of}
 use Rattle.bands.specs.declared.Times.{Times}
 use Rattle.bands.specs.Times.{timeOk, timesOk, larger, largest}
-use Rattle.bands.specs.Tail.{ceiling, framesIn, judgedCount, tailCount, countOf, CountRange}
+use Rattle.bands.specs.Tail.{ceiling, framesIn, judgedCount, tailCount, countOf, CountRange, NoTail}
 use Rattle.bands.proofs.Bounds.{Upto, held, held-int, value-upto, mul-upto, div-upto, quotient-upto, whole-upto, none-of, zero-upto, lt-or-eq}
 
 -- ---- a time in range is a number up to 100
+
+-- a number that is level with +0
+nothing : (m : ℕ) (e : ℤ) → T (eqb (0 * 1 * down e) (m * up e * 1)) → m ≡ 0
+nothing m e h =
+    let level : 0 * 1 * down e ≡ m * up e * 1 = eqb→eq _ _ h in
+    none-of m (up e) (up-pos e) (omega (arith, level, zero-mul (down e)))
 
 hundred : (x : Float) → T (le +0 x) → T (le x (ofBits binary32 0x42c8_0000)) → Upto x 100 1
 unfolding le ofBits
 hundred nan l h = absurd l
 hundred (inf true) l h = absurd l
 hundred (inf false) l h = absurd h
-hundred (fin true m e) l h =
-    let level : 0 * 1 * down e ≡ m * up e * 1 = eqb→eq _ _ (and-l (eqb (0 * 1 * down e) (m * up e * 1)) (eqb (0 * 1 * down e) 0) l) in
-    zero-upto true m e 100 (none-of m (up e) (up-pos e) (omega (arith, level, zero-mul (down e))))
+hundred (fin true m e) l h = zero-upto true m e 100 (nothing m e (and-l (eqb (0 * 1 * down e) (m * up e * 1)) (eqb (0 * 1 * down e) 0) l))
 hundred (fin false m e) l h = (lt-or-eq (m * up e * 1) (25 * 4 * down e) true h, λ q. absurd (true≢false (sym q)))
 
 pub time-upto : (x : Float) → timeOk x ≡ true → Upto x 100 1
@@ -136,3 +140,27 @@ count-yes t rate frame e = rw e refl
 
 pub count-range : CountRange
 count-range t rate frame = accept-either (λ (n : ℕ). n ≤ 9600000) (judgedCount t rate frame) (tail-upto t rate frame) (λ e. omega arith)
+
+-- ---- no time, no tail
+
+zero-of : (x : Float) → T (eq +0 x) → Upto x 0 1
+unfolding eq ofBits
+zero-of nan h = absurd h
+zero-of (inf s) h = absurd h
+zero-of (fin s m e) h = zero-upto s m e 0 (nothing m e (and-l (eqb (0 * 1 * down e) (m * up e * 1)) _ h))
+
+no-frames : (x : Float) (rate frame : ℕ) → Upto x 0 1 → rate ≤ 192000 → 4 ≤ frame → frame ≤ 1024 → Upto (framesIn x rate frame) 0 1
+no-frames x rate frame p r f g =
+    div-upto _ _ 0 frame 0 (held 0 (omega arith)) (omega arith) (omega arith)
+    (mul-upto x (ofInt binary32 (pos rate)) 0 1 rate 1 0 (held 0 (omega arith)) (omega arith) (omega arith) p
+    (value-upto (ofInt binary32 (pos rate)) rate 1 (held-int rate (omega arith))))
+    (held-int frame (omega arith))
+
+pub no-tail : NoTail
+no-tail t rate frame z =
+    accept-either (λ (n : ℕ). n ≡ 0) (judgedCount t rate frame)
+    (λ e.
+    let k = counts t rate frame e in
+    let none = no-frames (largest t) rate frame (zero-of (largest t) (rw z tt)) (k .rates .hi) (k .frames .lo) (k .frames .hi) in
+    omega (arith, ceiling-upto (framesIn (largest t) rate frame) 0 none))
+    (λ e. refl)

@@ -1,12 +1,13 @@
 -- How many frames a tail lasts: step 6 of an apply (R6.1 to R6.6).
-use mathlib.Core.Bool.{cond, _&&_}
+use mathlib.Core.Path.{_≡_}
+use mathlib.Core.Bool.{true, cond, _&&_}
 use Prim.Native.Nat.{ℕ, zero, suc, _+_, _-_, _*_, _/_, _≤_, min}
 use lib.IntN.{ℤ, pos, negsuc}
-use lib.Ieee.{Float, nan, inf, fin, binary32, up, down, ofInt}
+use lib.Ieee.{Float, nan, inf, fin, binary32, up, down, eq, ofInt}
 use Rattle.samples.specs.declared.Answer.{Answer}
 use Rattle.samples.specs.declared.Answer.the-variants.{Accepted, BadSize, BadTime}
 use Rattle.samples.specs.Answers.{need, accept}
-use Rattle.samples.specs.Binary32.{_⊗_, _⊘_}
+use Rattle.samples.specs.Binary32.{+0, _⊗_, _⊘_}
 use Rattle.samples.specs.Sizes.{rateOk, frameOk}
 use Rattle.bands.specs.declared.Times.{Times}
 use Rattle.bands.specs.Times.{timesOk, largest}
@@ -36,6 +37,10 @@ countOf t rate frame = accept (judgedCount t rate frame) (tailCount t rate frame
 -- R6.4: the range of the count, after every call
 abbrev pub CountRange : Type 0
 CountRange = (t : Times) (rate frame : ℕ) → countOf t rate frame ≤ 9600000
+
+-- R6.5: a largest time of 0, with either sign, counts 0 whatever rate and frame are
+abbrev pub NoTail : Type 0
+NoTail = (t : Times) (rate frame : ℕ) → eq +0 (largest t) ≡ true → countOf t rate frame ≡ 0
 
 -- R4.13: the count of a tail, one less unless it is the least that there is
 abbrev pub fallen : ℤ → ℤ

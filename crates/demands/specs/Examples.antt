@@ -58,8 +58,9 @@ pub record Examples : Type 0 where
   pub p3 : (nearestPower 2 900 ≡ 1024) × (nearestPower 7 907 ≡ 343) × (nearestPower 7 908 ≡ 2401) × ((p : ℕ) → nearestPower p 0 ≡ 1)
       × (nearestPower 2 3 ≡ 4) × (nearestPower 3 2 ≡ 3) × (nearestPower 53 900 ≡ 2809)
   -- R9.22: counts
-  pub p4 : (countOf (thrice f2) 48000 1024 ≡ 188) × (countOf (thrice f0·5) 44100 512 ≡ 88) × (countOf (thrice +0) 48000 1024 ≡ 0)
-      × (verdictOf (pos 0) ≡ TailComplete) × (countOf (thrice f100) 192000 4 ≡ 9600000)
+  pub p4 : (countOf (thrice f2) 48000 1024 ≡ 188) × (countOf (thrice f0·5) 44100 512 ≡ 88)
+      × ((rate frame : ℕ) → (countOf (thrice +0) rate frame ≡ 0) × (verdictOf (pos (countOf (thrice +0) rate frame)) ≡ TailComplete))
+      × (countOf (thrice f100) 192000 4 ≡ 9600000)
   -- R9.23: a run of a filter
   pub p5 : runOut (fromCoefficients f0·5 +0 f1 +0 +0) (f1 ∷ +0 ∷ +0 ∷ []) ≡ f1 ∷ -f0·5 ∷ f0·25 ∷ []
   -- R9.24: turns of a ring, whatever the memory lent held
