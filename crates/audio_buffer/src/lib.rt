@@ -118,14 +118,14 @@ pub fn read_interleaved(
     answer
 }
 
-// Judges the request for one channel of a buffer that is `length` samples long (R7.13).
-pub fn channel_number(channels: usize, samples: usize, channel: usize, length: usize) -> Answer
-    ensures { λ r. ⌜ r ≡ judgedChannel channels samples channel length ⌝ }
+// Judges the request for one channel of a buffer that is `len` samples long (R7.13).
+pub fn channel_number(channels: usize, samples: usize, channel: usize, len: usize) -> Answer
+    ensures { λ r. ⌜ r ≡ judgedChannel channels samples channel len ⌝ }
 {
     judge_then(
         channels,
         samples,
-        length,
+        len,
         need(channel < channels, Answer::BadIndex, Answer::Accepted),
     )
 }

@@ -88,15 +88,15 @@ pub extern "C" fn hall_downmix(
     number(levels::downmix(channels, samples, buffer, output))
 }
 
-// Judges the request for one channel of a buffer that is `length` samples long (R7.13).
+// Judges the request for one channel of a buffer that is `len` samples long (R7.13).
 #[no_mangle]
 pub extern "C" fn hall_channel_number(
     channels: usize,
     samples: usize,
     channel: usize,
-    length: usize,
+    len: usize,
 ) -> u32
-    ensures { λ r. ⌜ r ≡ numberOf (judgedChannel channels samples channel length) ⌝ }
+    ensures { λ r. ⌜ r ≡ numberOf (judgedChannel channels samples channel len) ⌝ }
 {
-    number(audio_buffer::channel_number(channels, samples, channel, length))
+    number(audio_buffer::channel_number(channels, samples, channel, len))
 }
