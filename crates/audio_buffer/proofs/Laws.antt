@@ -15,7 +15,7 @@ use Rattle.samples.specs.declared.Answer.the-variants.{Accepted, BadLength, Bad
 use Rattle.samples.proofs.Laws.{needed, split-and}
 use Rattle.samples.proofs.Rows.{row-ends}
 use Rattle.audio_buffer.specs.Judges.{channelsOk, samplesOk, judgedThen, judgedTwo, judgedChannel}
-use Rattle.audio_buffer.specs.Layout.{column, columns, interleaved, deinterleaved}
+use Rattle.audio_buffer.specs.Layout.{column, columns, interleaved, deinterleaved, InterleavedAt, DeinterleavedAt, DeinterleavedInterleaved, InterleavedDeinterleaved}
 
 -- ---- what a judgement tells
 
@@ -114,18 +114,16 @@ columns-back row n xs e = ext-getD nan _ xs (long ∙ sym e) same
         ∙ columns-at row n row xs (i % row) (i / row) (p .1) (p .0)
         ∙ nth xs (p .2)
 
-module _ (channels samples : ℕ) (xs : List Float) where
-  -- sample t of channel c lies at c of frame t, and back
-  pub interleaved-at : (c t : ℕ) → c < channels → t < samples
-      → getD (interleaved channels samples xs) (t * channels + c) nan ≡ getD xs (c * samples + t) nan
-  interleaved-at c t hc ht = columns-at samples channels samples xs t c ht hc
+-- ---- interleaving and back
 
-  pub deinterleaved-at : (c t : ℕ) → c < channels → t < samples
-      → getD (deinterleaved channels samples xs) (c * samples + t) nan ≡ getD xs (t * channels + c) nan
-  deinterleaved-at c t hc ht = columns-at channels samples channels xs c t hc ht
+pub interleaved-at : InterleavedAt
+interleaved-at channels samples xs c t hc ht = columns-at samples channels samples xs t c ht hc
 
-  pub deinterleaved-interleaved : length xs ≡ channels * samples → deinterleaved channels samples (interleaved channels samples xs) ≡ xs
-  deinterleaved-interleaved e = columns-back samples channels xs e
+pub deinterleaved-at : DeinterleavedAt
+deinterleaved-at channels samples xs c t hc ht = columns-at channels samples channels xs c t hc ht
 
-  pub interleaved-deinterleaved : length xs ≡ channels * samples → interleaved channels samples (deinterleaved channels samples xs) ≡ xs
-  interleaved-deinterleaved e = columns-back channels samples xs (e ∙ mul-comm channels samples)
+pub deinterleaved-interleaved : DeinterleavedInterleaved
+deinterleaved-interleaved channels samples xs e = columns-back samples channels xs e
+
+pub interleaved-deinterleaved : InterleavedDeinterleaved
+interleaved-deinterleaved channels samples xs e = columns-back channels samples xs (e ∙ mul-comm channels samples)

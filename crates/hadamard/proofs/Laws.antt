@@ -15,7 +15,7 @@ use Rattle.samples.specs.Lists.{over}
 use Rattle.samples.specs.declared.Answer.the-variants.{Accepted, BadLength}
 use Rattle.samples.proofs.Laws.{needed, split-and}
 use Rattle.hadamard.specs.Mix.{mixAt, mixed, judgedSample}
-use Rattle.hadamard.specs.Rows.{column, mixedRow, mixedRows, judgedRows, rowsMixed}
+use Rattle.hadamard.specs.Rows.{column, mixedRow, mixedRows, OneSample, judgedRows, rowsMixed}
 use Rattle.hadamard.proofs.Joined.{joined-ext, joined-length, each-length, each-at}
 use Rattle.hadamard.proofs.Columns.{column-ext, one-column}
 
@@ -51,7 +51,7 @@ module _ (n f : ℕ) (k : Float) (u v : List Float) (same : (i : ℕ) → i < n 
 
 -- ---- rows of one sample: the mix of rows is the mix of the sample
 
-pub one-sample : (n : ℕ) (k : Float) (xs : List Float) → length xs ≡ n → mixedRows n 1 k xs ≡ mixed n k xs
+pub one-sample : OneSample
 unfolding mixed mixedRow mixedRows
 one-sample n k xs e = rw (← e) (joined-ext (length xs) _ _ (λ r h. ap (λ (c : List Float). mixAt k r c ∷ []) (one-column xs)))
 

@@ -1,4 +1,5 @@
 -- The mix of rows: n rows that were read, and after them n mixed rows, all of equal length.
+use mathlib.Core.Path.{_≡_}
 use mathlib.Core.List.{List, [], _∷_, _++_}
 use Prim.Native.Nat.{ℕ, zero, suc, _*_, _/_, _%_}
 use lib.Dec.{eqb}
@@ -7,7 +8,7 @@ use lib.Ieee.{Float, nan}
 use Rattle.samples.specs.Answers.{need}
 use Rattle.samples.specs.declared.Answer.{Answer}
 use Rattle.samples.specs.declared.Answer.the-variants.{Accepted, BadLength}
-use Rattle.hadamard.specs.Mix.{each, joined, mixAt}
+use Rattle.hadamard.specs.Mix.{each, joined, mixAt, mixed}
 
 -- sample t of each of n rows of f samples
 abbrev pub column : ℕ → ℕ → ℕ → List Float → List Float
@@ -21,6 +22,10 @@ mixedRow n f k reads r = each f (λ t. mixAt k r (column n f t reads))
 -- the n mixed rows, one after the other
 unfoldable pub mixedRows : ℕ → ℕ → Float → List Float → List Float
 mixedRows n f k reads = joined n (mixedRow n f k reads)
+
+-- R3.30: of rows that are one sample long it is the mix of that sample
+abbrev pub OneSample : Type 0
+OneSample = (n : ℕ) (k : Float) (xs : List Float) → length xs ≡ n → mixedRows n 1 k xs ≡ mixed n k xs
 
 -- R3.31: a multiple of 2 n, which with no lines is 0 alone
 unfoldable pub judgedRows : ℕ → ℕ → Answer

@@ -21,7 +21,7 @@ use Rattle.bands.specs.Times.{timeOk}
 use Rattle.bands.proofs.Bounds.{Upto, held, held-int, value-upto, mul-upto, div-upto, whole-upto}
 use Rattle.bands.proofs.Tail.{time-upto}
 use Rattle.primes.specs.declared.Value.{Value}
-use Rattle.primes.specs.Values.{valued, delayMin, valueFrom, valuesFrom, judgedTime, judgedIndex, judgedPower, judgedMin, judgedValue, judgedValues}
+use Rattle.primes.specs.Values.{valued, delayMin, MinRange, valueFrom, valuesFrom, judgedTime, judgedIndex, judgedPower, judgedMin, judgedValue, judgedValues}
 
 -- ---- the two ways out of a call that gives a value
 
@@ -90,7 +90,7 @@ min-upto time rate t r =
     (value-upto whole rate 1 (held-int rate (omega arith))))
     sixteen
 
-pub min-range : (time : Float) (rate : ℕ) → timeOk time ≡ true → rate ≤ 192000 → delayMin time rate ≤ 192000
+pub min-range : MinRange
 min-range time rate t r = whole-upto _ 192000 (min-upto time rate t r)
 
 -- what is left from line i on is its value, and then the rest

@@ -1,7 +1,8 @@
 -- The delay values (R6.8 to R6.12, R6.16 to R6.21).
-use mathlib.Core.Bool.{_&&_}
+use mathlib.Core.Path.{_≡_}
+use mathlib.Core.Bool.{true, _&&_}
 use mathlib.Core.List.{List, [], _∷_}
-use Prim.Native.Nat.{ℕ, _+_, _%_}
+use Prim.Native.Nat.{ℕ, _+_, _%_, _≤_}
 use lib.IntN.{pos}
 use lib.Dec.{leb, eqb}
 use lib.Ieee.{Float, binary32, ofInt, ofBits, toUnsigned}
@@ -22,6 +23,10 @@ valued a n = record { answer = a; value = accept a n 0 }
 -- R6.8, R6.9: the least delay. 0x3e19_999a is the binary32 nearest to 0.15, and 0x4180_0000 is 16
 abbrev pub delayMin : Float → ℕ → ℕ
 delayMin time rate = toUnsigned 64 (ofBits binary32 0x3e19_999a ⊗ time ⊗ ofInt binary32 (pos rate) ⊘ ofBits binary32 0x4180_0000)
+
+-- R6.11: its range, and with it that of x, at most 192,100
+abbrev pub MinRange : Type 0
+MinRange = (time : Float) (rate : ℕ) → timeOk time ≡ true → rate ≤ 192000 → delayMin time rate ≤ 192000
 
 -- R6.11, R6.12: x, and the power of the line's prime nearest to it
 abbrev pub valueFrom : ℕ → ℕ → ℕ → ℕ

@@ -9,10 +9,10 @@ use lib.ListN.{length, drop}
 use Rattle.delay.specs.declared.Cursors.{Cursors}
 use Rattle.delay.specs.Ring.{fourOf}
 use Rattle.delay.specs.Calls.{readTo, writeTo, get4Answer, put4Answer}
-use Rattle.delay.proofs.Laws.{Ready, ready-read, ready-write, ok-judged, ahead-mod}
-use Rattle.allpass.specs.Passes.{Stage, stageEnd, passEnd}
+use Rattle.delay.proofs.Laws.{Ready, ready-read, ready-write, judged-ok, ok-judged, ahead-mod}
+use Rattle.allpass.specs.Passes.{stageEnd, passEnd}
 use Rattle.allpass.proofs.Stages.{pass-rings}
-use Rattle.stages.specs.Settle.{movedBy}
+use Rattle.stages.specs.Settle.{movedBy, PassMoved}
 
 module _ (l : ℕ) (c : Cursors) (r : Ready l c) where
   moved-none : movedBy 0 l c ≡ c
@@ -46,13 +46,15 @@ module _ {l l′ : ℕ} {c c′ : Cursors} (r : Ready l c) (el : l′ ≡ l) (ec
       let e : 4 + 4 * n ≡ 4 * suc n = omega arith in
       rw (el, ec, moved-on l c r 4 (4 * n), e) refl
 
-pub pass-moved : (n : ℕ) (s : Stage) (row : List Float) → Ready (length (s .x)) (s .xs) → Ready (length (s .y)) (s .ys)
-    → (passEnd n s row .xs ≡ movedBy (4 * n) (length (s .x)) (s .xs)) × (passEnd n s row .ys ≡ movedBy (4 * n) (length (s .y)) (s .ys))
+pub pass-moved : PassMoved
 unfolding passEnd
-pass-moved zero s row rx ry = (sym (moved-none _ _ rx), sym (moved-none _ _ ry))
-pass-moved (suc n) s row rx ry =
+pass-moved zero s row x y = (sym (moved-none _ _ (judged-ok _ _ x)), sym (moved-none _ _ (judged-ok _ _ y)))
+pass-moved (suc n) s row x y =
+    let rx = judged-ok (length (s .x)) (s .xs) x in
+    let ry = judged-ok (length (s .y)) (s .ys) y in
     let l = pass-rings 1 s row in
     let mx = four-moved (s .x) (s .xs) rx in
     let my = four-moved (s .y) (s .ys) ry in
-    let rest = pass-moved n (stageEnd s (fourOf row)) (drop 4 row) (next-ready rx (l .x) mx) (next-ready ry (l .y) my) in
+    let next = stageEnd s (fourOf row) in
+    let rest = pass-moved n next (drop 4 row) (ok-judged _ _ (next-ready rx (l .x) mx)) (ok-judged _ _ (next-ready ry (l .y) my)) in
     (rest .0 ∙ next-moved rx (l .x) mx n, rest .1 ∙ next-moved ry (l .y) my n)

@@ -1,17 +1,19 @@
 -- What a frame leaves: which numbers 9 judges, what is put where, and how the cursors move.
-use Prim.Native.Nat.{ℕ, zero, suc, _+_, _%_}
+use Prim.Native.Nat.{ℕ, zero, suc, _+_, _*_, _%_}
+use mathlib.Core.Path.{_≡_}
 use mathlib.Core.Bool.{Bool, _&&_}
 use mathlib.Core.List.{List, [], _∷_, _++_}
 use lib.Ieee.{Float}
-use lib.ListN.{getD, take, drop}
+use lib.ListN.{length, getD, take, drop}
 use Rattle.samples.specs.declared.Answer.{Answer}
 use Rattle.samples.specs.declared.Answer.the-variants.{Accepted, NotFinite}
 use Rattle.samples.specs.Answers.{need}
 use Rattle.samples.specs.Lists.{allFrom}
 use Rattle.search.specs.Search.{allFinite}
 use Rattle.delay.specs.declared.Cursors.{Cursors}
-use Rattle.delay.specs.Calls.{both}
+use Rattle.delay.specs.Calls.{both, judgedRing}
 use Rattle.delay.specs.Ring.{write}
+use Rattle.allpass.specs.Passes.{Stage, passEnd}
 use Rattle.iir.specs.declared.Filter.{Filter}
 use Rattle.iir.specs.Nine.{finiteFilter}
 use Rattle.unit.specs.UnitState.{RingCursors, UnitState}
@@ -45,6 +47,12 @@ settled m u r store = putRows (u .settings .frame) (m .lines) 0 (lengths m u) (u
 -- R4.20: cursors of a ring of length l, f samples on. They go round a ring that is shorter than a frame more than once
 abbrev pub movedBy : ℕ → ℕ → Cursors → Cursors
 movedBy f l c = record { read = record { 0 = (c .read .0 + f) % l }; write = record { 0 = (c .write .0 + f) % l } }
+
+-- a stage whose rings and cursors are in range moves both by as many samples as it goes over
+abbrev pub PassMoved : Type 0
+PassMoved =
+    (n : ℕ) (s : Stage) (row : List Float) → judgedRing (length (s .x)) (s .xs) ≡ Accepted → judgedRing (length (s .y)) (s .ys) ≡ Accepted
+    → (passEnd n s row .xs ≡ movedBy (4 * n) (length (s .x)) (s .xs)) × (passEnd n s row .ys ≡ movedBy (4 * n) (length (s .y)) (s .ys))
 
 unfoldable pub allMoved : ℕ → List ℕ → List Cursors → List Cursors
 allMoved f [] cs = cs

@@ -1,14 +1,11 @@
--- R1.19, R1.21: the wall unit's sizes as F says them. Assumes nothing.
-use mathlib.Core.Path.{_≡_}
-use Prim.Native.Nat.{ℕ, _+_, _*_}
+-- The wall unit's sizes are those of R1.19 and R1.21. Assumes nothing.
 use native.Mathlib.Omega.{arith}
-use Rattle.unit.specs.Model.{wall}
-use Rattle.unit.specs.Sizes.{lengthsFrom, lengthsOf, total, storeLen, workLen}
+use Rattle.unit.specs.Sizes.{lengthsFrom, total, storeLen, workLen, StoreIs, WorkIs}
 
-pub store-is : (f : ℕ) → storeLen wall (lengthsOf wall f) ≡ 7600 + 16 * f
+pub store-is : StoreIs
 unfolding storeLen total lengthsFrom
 store-is f = omega arith
 
-pub work-is : (f : ℕ) → workLen wall f ≡ 1348 + 34 * f
+pub work-is : WorkIs
 unfolding workLen total
 work-is f = omega arith

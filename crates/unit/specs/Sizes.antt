@@ -4,7 +4,7 @@ use mathlib.Core.Path.{_≡_}
 use mathlib.Core.List.{List, [], _∷_}
 use lib.ListN.{length}
 use Rattle.unit.specs.UnitState.{UnitState}
-use Rattle.unit.specs.Model.{Model}
+use Rattle.unit.specs.Model.{Model, wall}
 
 -- R1.10: the lengths of the rings of n lines more, from line i on
 unfoldable pub lengthsFrom : Model → ℕ → ℕ → ℕ → List ℕ
@@ -30,6 +30,13 @@ storeLen m ls = total ls + total (m .passes)
 -- the allpass rings
 unfoldable pub workLen : Model → ℕ → ℕ
 workLen m f = (m .lines + m .lines + 2) * f + total (m .passes)
+
+-- R1.19, R1.21: the wall unit's
+abbrev pub StoreIs : Type 0
+StoreIs = (f : ℕ) → storeLen wall (lengthsOf wall f) ≡ 7600 + 16 * f
+
+abbrev pub WorkIs : Type 0
+WorkIs = (f : ℕ) → workLen wall f ≡ 1348 + 34 * f
 
 -- R1.15: three band filters a line, and three of the tone
 abbrev pub filtersLen : Model → ℕ

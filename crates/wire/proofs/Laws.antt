@@ -14,7 +14,7 @@ use borrow.Author.Tests.{le-leb, lt-leb}
 use Rattle.samples.specs.Binary32.{+0}
 use Rattle.samples.specs.Lists.{over}
 use Rattle.samples.proofs.Turns.{more, next}
-use Rattle.wire.specs.Wire.{valueOf, bytesOf, firstSample, decoded, encoded, written}
+use Rattle.wire.specs.Wire.{valueOf, bytesOf, firstSample, decoded, encoded, DecodedEncoded, written}
 
 -- ---- four bytes
 
@@ -102,7 +102,7 @@ decoded-front (x ∷ xs) rest f =
     let value = ap (ofBits binary32) (value-back (toBits binary32 x) (toBits-lt binary32 x (f 0))) ∙ ofBits-toBits binary32 x (f 0) in
     λ j. (whole ∙ value) j ∷ decoded-front xs rest (λ i. f (suc i)) j
 
-pub decoded-encoded : (xs : List Float) → ((i : ℕ) → T (fits binary32 (getD xs i nan))) → decoded (length xs) (encoded xs) ≡ xs
+pub decoded-encoded : DecodedEncoded
 decoded-encoded xs f = rw append-nil at (decoded-front xs [] f)
 
 pub encoded-silence : (n : ℕ) → encoded (replicate n +0) ≡ replicate (4 * n) 0

@@ -1,10 +1,11 @@
 -- R9.4: how floats lie in bytes, four each, the lowest byte first.
+use mathlib.Core.Path.{_≡_}
 use mathlib.Core.Bool.{cond}
 use mathlib.Core.List.{List, [], _∷_, _++_}
 use Prim.Native.Nat.{ℕ, zero, suc, _+_, _*_, _/_, _%_, min}
-use lib.Dec.{leb}
-use lib.ListN.{length, take, drop}
-use lib.Ieee.{Float, binary32, ofBits, toBits}
+use lib.Dec.{T, leb}
+use lib.ListN.{length, getD, take, drop}
+use lib.Ieee.{Float, nan, binary32, fits, ofBits, toBits}
 use Rattle.samples.specs.Binary32.{+0}
 
 -- the number that bytes stand for, the lowest first
@@ -30,6 +31,10 @@ decoded (suc n) bytes = firstSample bytes ∷ decoded n (drop 4 bytes)
 abbrev pub encoded : List Float → List ℕ
 encoded [] = []
 encoded (x ∷ xs) = bytesOf 4 (toBits binary32 x) ++ encoded xs
+
+-- floats of binary32, NaN among them, come back from their bytes
+abbrev pub DecodedEncoded : Type 0
+DecodedEncoded = (xs : List Float) → ((i : ℕ) → T (fits binary32 (getD xs i nan))) → decoded (length xs) (encoded xs) ≡ xs
 
 -- R9.17: bytes that were written over, by as many floats as they have room for, and the rest as it was
 unfoldable pub written : List Float → List ℕ → List ℕ
