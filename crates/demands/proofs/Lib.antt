@@ -1,7 +1,7 @@
-pub mod Determined
+pub mod DeterminedLibrary
 pub mod DeterminedFace
 pub mod DeterminedProgram
-pub mod Refusals
+pub mod RefusedParts
 pub mod Examples
 pub mod Lent
 pub mod Refused

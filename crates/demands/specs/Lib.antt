@@ -1,4 +1,8 @@
 pub mod Determined
+pub mod DeterminedLibrary
+pub mod DeterminedFace
+pub mod DeterminedProgram
+pub mod RefusedParts
 pub mod Examples
 pub mod Refusals
 pub mod AnyOrder
