@@ -17,7 +17,7 @@ use Rattle.samples.proofs.Laws.{split-and, needed, accept-either, Rate, rate-of
 use Rattle.bands.specs.declared.Times.{Times}
 use Rattle.bands.specs.Times.{timeOk, timesOk, larger, largest}
 use Rattle.bands.specs.Tail.{ceiling, framesIn, judgedCount, tailCount, countOf, CountRange, NoTail}
-use Rattle.bands.proofs.Bounds.{Upto, held, held-int, value-upto, mul-upto, div-upto, quotient-upto, whole-upto, none-of, zero-upto, lt-or-eq}
+use Rattle.bands.proofs.Bounds.{Upto, Held, held, held-int, value-upto, mul-upto, div-upto, quotient-upto, whole-upto, none-of, zero-upto, lt-or-eq}
 
 -- ---- a time in range is a number up to 100
 
@@ -43,12 +43,19 @@ time-upto x e =
 
 -- ---- the frames of a tail
 
-pub frames-upto : (x : Float) (rate frame : ℕ) → Upto x 100 1 → rate ≤ 192000 → 4 ≤ frame → frame ≤ 1024 → Upto (framesIn x rate frame) 4800000 1
-frames-upto x rate frame p r f g =
-    div-upto _ _ 19200000 frame 4800000 (held 4800000 (omega arith)) (omega arith) (omega arith)
-    (mul-upto x (ofInt binary32 (pos rate)) 100 1 rate 1 19200000 (round-exact binary32 false 19200000 1 9375 160 (lit< tt) (lit< tt) (lit< tt) refl) (omega arith) (omega arith) p
+-- of a time up to a, where p bounds the product and b the quotient
+frames-within : (x : Float) (rate frame a p b : ℕ) → Held p → Held b → a * rate ≤ p → p ≤ b * frame → Upto x a 1 → rate ≤ 192000 → 4 ≤ frame → frame ≤ 1024
+    → Upto (framesIn x rate frame) b 1
+frames-within x rate frame a p b hp hb lp lb u r f g =
+    div-upto _ _ p frame b hb (omega arith) lb
+    (mul-upto x (ofInt binary32 (pos rate)) a 1 rate 1 p hp (omega arith) (omega arith) u
     (value-upto (ofInt binary32 (pos rate)) rate 1 (held-int rate (omega arith))))
     (held-int frame (omega arith))
+
+pub frames-upto : (x : Float) (rate frame : ℕ) → Upto x 100 1 → rate ≤ 192000 → 4 ≤ frame → frame ≤ 1024 → Upto (framesIn x rate frame) 4800000 1
+frames-upto x rate frame u r f g =
+    frames-within x rate frame 100 19200000 4800000
+    (round-exact binary32 false 19200000 1 9375 160 (lit< tt) (lit< tt) (lit< tt) refl) (held 4800000 (omega arith)) (omega arith) (omega arith) u r f g
 
 -- ---- the ceiling, by way of the whole part
 
@@ -149,18 +156,13 @@ zero-of nan h = absurd h
 zero-of (inf s) h = absurd h
 zero-of (fin s m e) h = zero-upto s m e 0 (nothing m e (and-l (eqb (0 * 1 * down e) (m * up e * 1)) _ h))
 
-no-frames : (x : Float) (rate frame : ℕ) → Upto x 0 1 → rate ≤ 192000 → 4 ≤ frame → frame ≤ 1024 → Upto (framesIn x rate frame) 0 1
-no-frames x rate frame p r f g =
-    div-upto _ _ 0 frame 0 (held 0 (omega arith)) (omega arith) (omega arith)
-    (mul-upto x (ofInt binary32 (pos rate)) 0 1 rate 1 0 (held 0 (omega arith)) (omega arith) (omega arith) p
-    (value-upto (ofInt binary32 (pos rate)) rate 1 (held-int rate (omega arith))))
-    (held-int frame (omega arith))
-
 pub no-tail : NoTail
 no-tail t rate frame z =
     accept-either (λ (n : ℕ). n ≡ 0) (judgedCount t rate frame)
     (λ e.
     let k = counts t rate frame e in
-    let none = no-frames (largest t) rate frame (zero-of (largest t) (rw z tt)) (k .rates .hi) (k .frames .lo) (k .frames .hi) in
+    let zero = held 0 (omega arith) in
+    let none =
+    frames-within (largest t) rate frame 0 0 0 zero zero (omega arith) (omega arith) (zero-of (largest t) (rw z tt)) (k .rates .hi) (k .frames .lo) (k .frames .hi) in
     omega (arith, ceiling-upto (framesIn (largest t) rate frame) 0 none))
     (λ e. refl)
