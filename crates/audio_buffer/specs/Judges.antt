@@ -1,4 +1,5 @@
 -- What the buffer helpers refuse (R7.10 to R7.13).
+use mathlib.Core.Path.{_≡_}
 use mathlib.Core.Bool.{Bool, _&&_}
 use Prim.Native.Nat.{ℕ, _*_}
 use lib.Dec.{leb, ltb, eqb}
@@ -26,3 +27,7 @@ judgedTwo channels samples len other = judgedThen channels samples len (judgedTh
 -- R7.13: the channel, 4 after 3
 abbrev pub judgedChannel : ℕ → ℕ → ℕ → ℕ → Answer
 judgedChannel channels samples channel len = judgedThen channels samples len (need (ltb channel channels) BadIndex Accepted)
+
+-- R7.13: of two faults the one that is judged first, at three requests
+abbrev pub ChannelOrder : Type 0
+ChannelOrder = (judgedChannel 17 3 17 0 ≡ BadIndex) × (judgedChannel 2 3 2 7 ≡ BadLength) × (judgedChannel 2 3 2 6 ≡ BadIndex)

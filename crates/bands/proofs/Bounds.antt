@@ -13,6 +13,7 @@ use lib.Ieee.Exact.{HasValue, round-exact}
 use lib.Ieee.Order.{round-mono}
 use lib.Ieee.Back.{round-whole}
 use borrow.Author.Tests.{ne-eqb}
+use Rattle.bands.specs.Tail.{WholeExact}
 
 -- x is a number from 0 to a / c, the two zeros among them
 abbrev pub Upto : Float → ℕ → ℕ → Type 0
@@ -27,9 +28,9 @@ Held b = HasValue (round binary32 false b 1) false b 1
 pub held : (b : ℕ) → b ≤ 2 ^ 24 → Held b
 held b h = round-whole binary32 false b h
 
-pub held-int : (n : ℕ) → n ≤ 2 ^ 24 → HasValue (ofInt binary32 (pos n)) false n 1
+pub whole-exact : WholeExact
 unfolding ofInt
-held-int n h = held n h
+whole-exact n h = held n h
 
 pub value-upto : (x : Float) (a c : ℕ) → HasValue x false a c → Upto x a c
 value-upto nan a c v = absurd v

@@ -17,7 +17,7 @@ use Rattle.samples.proofs.Laws.{split-and, needed, accept-either, Rate, rate-of
 use Rattle.bands.specs.declared.Times.{Times}
 use Rattle.bands.specs.Times.{timeOk, timesOk, larger, largest}
 use Rattle.bands.specs.Tail.{ceiling, framesIn, judgedCount, tailCount, countOf, CountRange, NoTail}
-use Rattle.bands.proofs.Bounds.{Upto, Held, held, held-int, value-upto, mul-upto, div-upto, quotient-upto, whole-upto, none-of, zero-upto, lt-or-eq}
+use Rattle.bands.proofs.Bounds.{Upto, Held, held, whole-exact, value-upto, mul-upto, div-upto, quotient-upto, whole-upto, none-of, zero-upto, lt-or-eq}
 
 -- ---- a time in range is a number up to 100
 
@@ -49,8 +49,8 @@ frames-within : (x : Float) (rate frame a p b : ℕ) → Held p → Held b → a
 frames-within x rate frame a p b hp hb lp lb u r f g =
     div-upto _ _ p frame b hb (omega arith) lb
     (mul-upto x (ofInt binary32 (pos rate)) a 1 rate 1 p hp (omega arith) (omega arith) u
-    (value-upto (ofInt binary32 (pos rate)) rate 1 (held-int rate (omega arith))))
-    (held-int frame (omega arith))
+    (value-upto (ofInt binary32 (pos rate)) rate 1 (whole-exact rate (omega arith))))
+    (whole-exact frame (omega arith))
 
 pub frames-upto : (x : Float) (rate frame : ℕ) → Upto x 100 1 → rate ≤ 192000 → 4 ≤ frame → frame ≤ 1024 → Upto (framesIn x rate frame) 4800000 1
 frames-upto x rate frame u r f g =
@@ -103,7 +103,7 @@ ceiling-upto (fin false m e) b p =
 pub counted-up : (q y : Float) (n b : ℕ) → b ≤ 2 ^ 24 → Upto q b 1 → n ≡ toUnsigned 64 q → y ≡ ofInt binary32 (pos n) → (cond (lt y q) (n + 1) n ≡ ceiling q) × (cond (lt y q) (n + 1) n ≤ b)
 counted-up q y n b l p e t =
     let k : n ≤ b = omega (arith, e, whole-upto q b p) in
-    let c = ceiling-is q y n b p l e (rw t (held-int n (omega arith))) in
+    let c = ceiling-is q y n b p l e (rw t (whole-exact n (omega arith))) in
     (sym c, omega (arith, c, ceiling-upto q b p))
 
 -- ---- the range of the count

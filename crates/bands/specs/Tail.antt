@@ -1,9 +1,10 @@
 -- How many frames a tail lasts: step 6 of an apply (R6.1 to R6.6).
 use mathlib.Core.Path.{_≡_}
-use mathlib.Core.Bool.{true, cond, _&&_}
-use Prim.Native.Nat.{ℕ, zero, suc, _+_, _-_, _*_, _/_, _≤_, min}
+use mathlib.Core.Bool.{true, false, cond, _&&_}
+use Prim.Native.Nat.{ℕ, zero, suc, _+_, _-_, _*_, _/_, _^_, _≤_, min}
 use lib.IntN.{ℤ, pos, negsuc}
 use lib.Ieee.{Float, nan, inf, fin, binary32, up, down, eq, ofInt}
+use lib.Ieee.Exact.{HasValue}
 use Rattle.samples.specs.declared.Answer.{Answer}
 use Rattle.samples.specs.declared.Answer.the-variants.{Accepted, BadSize, BadTime}
 use Rattle.samples.specs.Answers.{need, accept}
@@ -41,6 +42,10 @@ CountRange = (t : Times) (rate frame : ℕ) → countOf t rate frame ≤ 9600000
 -- R6.5: a largest time of 0, with either sign, counts 0 whatever rate and frame are
 abbrev pub NoTail : Type 0
 NoTail = (t : Times) (rate frame : ℕ) → eq +0 (largest t) ≡ true → countOf t rate frame ≡ 0
+
+-- R6.2: rate and F as floats are exact, as every whole number up to 2^24 is
+abbrev pub WholeExact : Type 0
+WholeExact = (n : ℕ) → n ≤ 2 ^ 24 → HasValue (ofInt binary32 (pos n)) false n 1
 
 -- R4.13: the count of a tail, one less unless it is the least that there is
 abbrev pub fallen : ℤ → ℤ

@@ -1,2 +1,3 @@
 pub mod Mix
 pub mod Rows
+pub mod Examples

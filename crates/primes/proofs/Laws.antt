@@ -18,7 +18,7 @@ use Rattle.samples.specs.Sizes.{rateOk}
 use Rattle.samples.proofs.Turns.{next}
 use Rattle.samples.proofs.Laws.{split-and, needed, new-made, old-left, Rate, rate-of}
 use Rattle.bands.specs.Times.{timeOk}
-use Rattle.bands.proofs.Bounds.{Upto, held, held-int, value-upto, mul-upto, div-upto, whole-upto}
+use Rattle.bands.proofs.Bounds.{Upto, held, whole-exact, value-upto, mul-upto, div-upto, whole-upto}
 use Rattle.bands.proofs.Tail.{time-upto}
 use Rattle.primes.specs.declared.Value.{Value}
 use Rattle.primes.specs.Values.{valued, delayMin, MinRange, valueFrom, valuesFrom, judgedTime, judgedIndex, judgedPower, judgedMin, judgedValue, judgedValues}
@@ -87,7 +87,7 @@ min-upto time rate t r =
     div-upto (part ⊗ time ⊗ whole) (ofBits binary32 0x4180_0000) 3072000 16 192000 (held 192000 (omega arith)) (omega arith) (omega arith)
     (mul-upto (part ⊗ time) whole 16 1 rate 1 3072000 (held 3072000 (omega arith)) (omega arith) (omega arith)
     (mul-upto part time 4 25 100 1 16 (held 16 (omega arith)) (omega arith) (omega arith) part-upto (time-upto time t))
-    (value-upto whole rate 1 (held-int rate (omega arith))))
+    (value-upto whole rate 1 (whole-exact rate (omega arith))))
     sixteen
 
 pub min-range : MinRange
