@@ -44,9 +44,9 @@
  * was given and leaves every lent slice as it was, 9 aside.
  *
  *   0  accepted.
- *   1  the state is out of range (R1.27): its rate or frame (see 2), a cursor that isn't below its ring's length, or,
- *      with no frame open, something kept for one. It isn't as a call of this HALL_VERSION gave it: begin again
- *      with hall_fresh. Of a ring alone: a cursor, be it the one that stays, isn't below the length lent.
+ *   1  the state is out of range (R1.27): its rate or frame (see 2), a cursor that isn't below its ring's
+ *      length, or, with no frame open, something kept for one. It isn't as a call of this HALL_VERSION gave it:
+ *      begin again with hall_fresh. Of a ring alone: a cursor, be it the one that stays, isn't below the length.
  *   2  the rate isn't in 8,000 to 192,000, or the frame no multiple of 4 in 4 to 1,024. Choose others.
  *   3  a lent slice hasn't the length that stands at the call; one that is too long is refused too.
  *   4  a number of the request is out of range: line above 15; a ring's n of 0 or above its length; channels
