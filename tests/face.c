@@ -433,9 +433,10 @@ static void layout_of_the_cursors(void) {
     CHECK(slice(STORE)[line_length(0, 4) + 10] == (float)(line_length(0, 4) + 10));
 }
 
-/* An answer too large for registers is written to a place that the caller names by a hidden first argument, as x86-64
- * has it. Here the place is named openly, with a margin behind it. What hall_apply is given last lies on the stack
- * behind the state, so that the frames played below would be refused if the state's size were another. */
+/* An answer too large for registers is written to a place that the caller names, and no C can say where: on x86-64 by a
+ * hidden first argument, on Arm in a register of its own, x8. Here the place is named openly, with a margin behind it.
+ * What hall_apply is given last lies on x86-64's stack behind the state, so that the frames played below would be refused
+ * if the state's size were another; Arm's C passes where the state lies. */
 enum { BEHIND = 64 };
 
 typedef struct {
@@ -443,7 +444,7 @@ typedef struct {
     unsigned char behind[BEHIND];
 } place;
 
-static place answered;
+place answered;
 
 /* The place; its bytes and those behind it are not zero. */
 static void *room(void) {
@@ -460,7 +461,7 @@ static bool ends_at(const void *given, size_t size, size_t padding) {
     return given == &answered;
 }
 
-/* A function with its hidden argument shown. It goes through a variable, so that no compiler knows which it is. */
+/* A function whose place is named. It goes through a variable, so that no compiler knows which it is. */
 typedef void function(void);
 
 static function *unknown(function *f) {
@@ -468,20 +469,35 @@ static function *unknown(function *f) {
     return g;
 }
 
-#define OPENLY(name, ...) ((void *(*)(void *, __VA_ARGS__))unknown((function *)(name)))
+/* Calls a function of these types, and gives where it says that the answer is. */
+#ifdef LIBRARY_FOR_ARM
+function *chosen, to_place;
+__asm__(".text\n"
+        "to_place:\n" /* the chosen function, with the arguments as they are */
+        "    adrp x8, answered\n"
+        "    add x8, x8, :lo12:answered\n"
+        "    adrp x16, chosen\n"
+        "    ldr x16, [x16, :lo12:chosen]\n"
+        "    br x16\n");
+#define OPENLY(name, types, ...) \
+    (room(), chosen = (function *)(name), ((void(*) types)unknown(to_place))(__VA_ARGS__), (void *)&answered)
+#else
+#define AFTER_PLACE(...) (void *, __VA_ARGS__)
+#define OPENLY(name, types, ...) (((void *(*)AFTER_PLACE types)unknown((function *)(name)))(room(), __VA_ARGS__))
+#endif
 
 static void layout_of_the_sizes(void) {
     CHECK(sizeof(hall_state) == 4056 && sizeof(hall_answer) == 4080);
     float ring[5] = {0};
     const hall_cursors c = {1, 2};
     const hall_filter f = {0};
-    void *given = OPENLY(hall_reset, hall_state, float *, size_t)(room(), numbered(8), ring, 5);
+    void *given = OPENLY(hall_reset, (hall_state, float *, size_t), numbered(8), ring, 5);
     CHECK(ends_at(given, sizeof(hall_answer), 4) && answered.whole.number == 3);
-    given = OPENLY(hall_ring_reset, float *, size_t, hall_cursors)(room(), ring, 5, c);
+    given = OPENLY(hall_ring_reset, (float *, size_t, hall_cursors), ring, 5, c);
     CHECK(ends_at(given, sizeof(hall_ring_answer), 0) && answered.whole.number == 0);
-    given = OPENLY(hall_ring_get4, const float *, size_t, hall_cursors)(room(), ring, 5, c);
+    given = OPENLY(hall_ring_get4, (const float *, size_t, hall_cursors), ring, 5, c);
     CHECK(ends_at(given, sizeof(hall_four_answer), 0) && answered.whole.number == 0);
-    given = OPENLY(hall_filter_run, hall_filter, float *, size_t)(room(), f, ring, 5);
+    given = OPENLY(hall_filter_run, (hall_filter, float *, size_t), f, ring, 5);
     CHECK(ends_at(given, sizeof(hall_filter), 0));
     hall_value v = hall_prime_power(3, 0);
     CHECK(sizeof v == 8 && v.number == 0 && v.value == 4);

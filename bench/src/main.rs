@@ -16,7 +16,7 @@ const TIMES: [f32; 3] = [0.5; 3];
 fn main() {
     if !hall::LINKED {
         println!(
-            "bench: SKIPPED (libhall.a is x86-64 code and this machine isn't: under an emulator a time says nothing)"
+            "bench: SKIPPED (libhall.a isn't this machine's code, and under an emulator a time says nothing; make it by ./build)"
         );
         return;
     }
