@@ -76,8 +76,8 @@
  *
  * A slice is a pointer and a count of floats, not of bytes. A const slice is never written. A state is 4,056
  * bytes and an answer 4,080, by value: leave room for a few of them on the stack. The layouts below are those
- * of x86-64 and of 64-bit Arm, which are the same. The library calls memcpy, memmove and memset of C, and takes
- * floats to be rounded to nearest and the smallest ones kept, as C programs begin.
+ * of x86-64 and of 64-bit Arm, which are the same. The library calls C's memcpy, memmove and memset, and wants
+ * floats rounded to nearest and the smallest ones kept, as a C program begins.
  */
 #ifndef HALL_H
 #define HALL_H
