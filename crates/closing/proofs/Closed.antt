@@ -11,7 +11,7 @@ use Rattle.unit.specs.declared.State.{State}
 use Rattle.unit.specs.declared.Outcome.{Outcome}
 use Rattle.unit.specs.UnitState.{ofState}
 use Rattle.unit.specs.Model.{wall}
-use Rattle.unit.specs.Sizes.{lengthsOf, lengths}
+use Rattle.unit.specs.Sizes.{lengths}
 use Rattle.unit.specs.Room.{roomOk}
 use Rattle.rows.specs.Rows.{Rows, rowsOf}
 use Rattle.frame.specs.declared.Stepped.{Stepped}

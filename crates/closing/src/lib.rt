@@ -34,7 +34,7 @@ pub fn close(s: State, store: &mut [f32], work: &mut [f32], output: &mut [f32]) 
         return quiet(answer, s);
     }
     let f = s.frame;
-    let lengths = lengths(f);
+    let lengths = lengths(s);
     let lines = s.lines;
     let passes = s.passes;
     let fs = s.filters;

@@ -15,7 +15,7 @@ use Rattle.hadamard.specs.Rows.{mixedRows}
 use Rattle.hadamard.proofs.Laws.{rows-length}
 use Rattle.unit.specs.UnitState.{UnitState}
 use Rattle.unit.specs.Model.{Model}
-use Rattle.unit.specs.Sizes.{lengths, total, filtersLen, storeLen, workLen, lengthsOf}
+use Rattle.unit.specs.Sizes.{lengths, total, filtersLen, storeLen, workLen}
 use Rattle.stages.specs.Frame.{Frame, frameOf, frameFrom, passesIn, lineRows}
 use Rattle.stages.proofs.RowLaws.{Held, length-readRows, length-bandEnds}
 use Rattle.stages.proofs.FrameLaws.{put-beside, out-long}
@@ -122,13 +122,13 @@ module _ (m : Model) (o : Opening) (h : Fit m o) where
 
   -- ---- lengths
 
-  pub held : Held f n 0 (lengthsOf m f) (length (o .store))
+  pub held : Held f n 0 (lengths m (o .unit)) (length (o .store))
   unfolding storeLen
-  held = lines-held m f (length (o .store)) (omega (arith, h .store))
+  held = lines-held m (o .unit) (length (o .store)) (omega (arith, h .store))
 
   pub reads-long : length (R .reads) ≡ n * f
   unfolding frameFrom
-  reads-long = length-readRows f (lengthsOf m f) (o .unit .cursors .lines) n 0 (o .store) held
+  reads-long = length-readRows f (lengths m (o .unit)) (o .unit .cursors .lines) n 0 (o .store) held
 
   pub mixed-long : length (R .lines .mixed) ≡ n * f
   unfolding frameFrom lineRows
@@ -146,13 +146,13 @@ module _ (m : Model) (o : Opening) (h : Fit m o) where
   unfolding frameFrom
   ends-three i b = ap length (filters-row n f (m .factor) (o .tail) (o .filters) (o .input) (R .reads) i b)
 
-  begun-long : length (passesIn (lengthsOf m f) (o .store)) ≡ total (m .passes)
+  begun-long : length (passesIn (lengths m (o .unit)) (o .store)) ≡ total (m .passes)
   unfolding storeLen
   begun-long = simp length-drop (omega (arith, h .store))
 
   done-long : length (R .output .rings) ≡ total (m .passes)
   unfolding frameFrom
-  done-long = rings-long n f (m .divisor) (m .passes) (o .unit .cursors .passes) (o .filters) (passesIn (lengthsOf m f) (o .store)) (R .reads) (h .passes) begun-long
+  done-long = rings-long n f (m .divisor) (m .passes) (o .unit .cursors .passes) (o .filters) (passesIn (lengths m (o .unit)) (o .store)) (R .reads) (h .passes) begun-long
 
   silence-long : length (silence o) ≡ f
   silence-long = length-replicate f +0
@@ -182,7 +182,7 @@ module _ (m : Model) (o : Opening) (h : Fit m o) where
     unfolding frameFrom
     output-long =
         cond-long (at marks (outputMark m)) _ _ f
-        (out-long n f (m .divisor) (m .passes) (o .unit .cursors .passes) (o .filters) (passesIn (lengthsOf m f) (o .store)) (R .reads) (h .fours)) silence-long
+        (out-long n f (m .divisor) (m .passes) (o .unit .cursors .passes) (o .filters) (passesIn (lengths m (o .unit)) (o .store)) (R .reads) (h .fours)) silence-long
 
     pub rings-at-long : length (ringsAt m o marks) ≡ total (m .passes)
     rings-at-long = cond-long (at marks (outputMark m)) _ _ (total (m .passes)) done-long begun-long

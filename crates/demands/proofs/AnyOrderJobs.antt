@@ -17,7 +17,7 @@ use Rattle.iir.specs.Runs.{bandsOut, bandsEnd}
 use Rattle.hadamard.specs.Rows.{mixedRows}
 use Rattle.unit.specs.UnitState.{UnitState}
 use Rattle.unit.specs.Model.{Model}
-use Rattle.unit.specs.Sizes.{lengths, jobsLen, lengthsOf}
+use Rattle.unit.specs.Sizes.{lengths, jobsLen}
 use Rattle.stages.specs.Lines.{noFilter, three, threeOf, plus}
 use Rattle.stages.specs.Frame.{Frame, OutputRow, frameFrom, passesIn, lineRows, newFilters}
 use Rattle.judges.specs.Marks.{mixMark, lineMark, outputMark, allDone}
@@ -74,7 +74,7 @@ module _ (m : Model) (o : Opening) (h : Fit m o) (marks : List Bool) where
       output-kept = ap (λ (b : Bool). cond b (R .output .out) (silence o)) mark-kept
 
       rings-kept : ringsAt m o marks ≡ ringsAt m o more
-      rings-kept = ap (λ (b : Bool). cond b (R .output .rings) (passesIn (lengthsOf m f) (o .store))) mark-kept
+      rings-kept = ap (λ (b : Bool). cond b (R .output .rings) (passesIn (lengths m (o .unit)) (o .store))) mark-kept
 
       tone-kept : toneAt m o marks ≡ toneAt m o more
       tone-kept = ap (λ (b : Bool). cond b (R .output .filters) (drop (3 * n) (o .filters))) mark-kept
@@ -98,7 +98,7 @@ module _ (m : Model) (o : Opening) (h : Fit m o) (marks : List Bool) where
       read-is : readRow m (unitAt m o marks) i (o .store) ≡ readAt m o (set marks i true) i
       unfolding frameFrom
       read-is =
-          let e = rw zero-add at (read-row f (lengthsOf m f) (o .unit .cursors .lines) n 0 i (o .store) b (held m o h)) in
+          let e = rw zero-add at (read-row f (lengths m (o .unit)) (o .unit .cursors .lines) n 0 i (o .store) b (held m o h)) in
           sym e ∙ rw (set-here marks i (omega (arith, g .long))) refl
 
       pub read-filters : filtersAt m o marks ≡ filtersAt m o (set marks i true)
@@ -286,13 +286,13 @@ module _ (m : Model) (o : Opening) (h : Fit m o) (marks : List Bool) where
             reads = reads-kept (outputMark m) (omega arith) t;
             mixed = mixed-kept (outputMark m) out-there (λ q. omega arith) t;
             output = cond (sym out-here t) (R .output .out) (silence o);
-            rings = cond (sym out-here t) (R .output .rings) (passesIn (lengthsOf m f) (o .store));
+            rings = cond (sym out-here t) (R .output .rings) (passesIn (lengths m (o .unit)) (o .store));
           }))
 
       pub output-filters : jobFilters m (memoryAt m o marks) outputJob ≡ filtersAt m o out
       unfolding outputEnds frameFrom
       output-filters =
-          let tone : length (R .output .filters) ≡ 3 = tone-long n f (m .divisor) (m .passes) (o .unit .cursors .passes) (o .filters) (passesIn (lengthsOf m f) (o .store)) (R .reads) in
+          let tone : length (R .output .filters) ≡ 3 = tone-long n f (m .divisor) (m .passes) (o .unit .cursors .passes) (o .filters) (passesIn (lengths m (o .unit)) (o .store)) (R .reads) in
           let old : length (toneAt m o marks) ≡ 3 = rw undone (simp length-drop (omega (arith, h .filters))) in
           (λ t. over (3 * n) (output-cut t .filters) (filtersAt m o marks))
           ∙ over-end (3 * n) (R .output .filters) (stacked n (bandsAt m o marks)) (toneAt m o marks) lines-long (old ∙ sym tone)
@@ -376,7 +376,7 @@ module _ (m : Model) (o : Opening) (h : Fit m o) (marks : List Bool) (long : len
         reads = reads t;
         mixed = mixed t;
         output = cond (its-output t) (frameIn m o .output .out) (silence o);
-        rings = cond (its-output t) (frameIn m o .output .rings) (passesIn (lengthsOf m f) (o .store));
+        rings = cond (its-output t) (frameIn m o .output .rings) (passesIn (lengths m (o .unit)) (o .store));
       }
 
   pub all-filters : filtersAt m o marks ≡ newFilters (frameIn m o)

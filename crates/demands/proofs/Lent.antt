@@ -19,7 +19,8 @@ use Rattle.delay.specs.Calls.{both}
 use Rattle.delay.proofs.Laws.{accept-either}
 use Rattle.unit.specs.UnitState.{UnitState}
 use Rattle.unit.specs.Model.{Model}
-use Rattle.unit.specs.Sizes.{lengthsOf, lengths, coefficientsLen, filtersLen, storeLen, workLen}
+use Rattle.unit.specs.Sizes.{lengths, coefficientsLen, filtersLen, storeLen, workLen}
+use Rattle.unit.specs.Fresh.{freshUnit}
 use Rattle.unit.specs.Range.{inRange, below, cursorsIn}
 use Rattle.judges.specs.Judges.{judged, judgedFresh, judgedReset, judgedGiven, givenOk, lentOk, storeOk, workOk}
 use Rattle.stages.specs.Frame.{frameFrom}
@@ -57,7 +58,7 @@ not-is false e = refl
 
 -- ---- the store
 
-pub fresh-long : (m : Model) (rate frame store : ℕ) → judgedFresh m rate frame store ≡ Accepted → store ≡ storeLen m (lengthsOf m frame)
+pub fresh-long : (m : Model) (rate frame store : ℕ) → judgedFresh m rate frame store ≡ Accepted → store ≡ storeLen m (lengths m (freshUnit m rate frame))
 unfolding judgedFresh
 fresh-long m rate frame store e =
     let p = needed (rateOk rate && frameOk frame) BadSize _ refl e in

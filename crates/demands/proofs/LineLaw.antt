@@ -23,7 +23,7 @@ use Rattle.delay.specs.Calls.{both}
 use Rattle.delay.proofs.Laws.{accept-either, rotl-same}
 use Rattle.unit.specs.UnitState.{UnitState}
 use Rattle.unit.specs.Model.{Model}
-use Rattle.unit.specs.Sizes.{lengths, jobsLen, storeLen, workLen, lengthsOf}
+use Rattle.unit.specs.Sizes.{lengths, jobsLen, storeLen, workLen}
 use Rattle.unit.specs.Fresh.{freshUnit}
 use Rattle.judges.specs.Judges.{storeOk, workOk}
 use Rattle.stages.specs.Frame.{frameFrom, newFilters}
@@ -46,19 +46,19 @@ use Rattle.demands.proofs.AnyOrderMarks.{true≢false, set-there, done-
 use Rattle.demands.proofs.AnyOrderRequests.{stays}
 use Rattle.demands.proofs.Refused.{refused-no}
 
-module _ (m : Model) (i : ℕ) (h : i < m .lines) (f : ℕ) where
+-- of line i, whose length is l
+module _ (m : Model) (i : ℕ) (h : i < m .lines) (l : ℕ) where
   -- ---- what holds between calls
 
-  -- of the unit: its frame, its lines' cursors and its marks
+  -- of the unit: its lines' cursors and its marks
   record Line (u : UnitState) : Type 0 where
-    frame : u .settings .frame ≡ f
     lines : length (u .cursors .lines) ≡ m .lines
     equal : cursors u i .read ≡ cursors u i .write
     marks : length (u .held .marks) ≡ jobsLen m
 
   -- of the account
   record Even (a : Account) (u : UnitState) (store : List Float) : Type 0 where
-    all : replicate (getD (lengthsOf m f) i 0) +0 ++ a .given ≡ a .out ++ view m i (u .settings .frame) (u .cursors .lines) store
+    all : replicate l +0 ++ a .given ≡ a .out ++ view (lengths m u) i (u .cursors .lines) store
     long : length (a .out) ≡ length (a .given)
 
   record Holds (u : UnitState) (store : List Float) (a : Account) : Type 0 where
@@ -88,24 +88,24 @@ module _ (m : Model) (i : ℕ) (h : i < m .lines) (f : ℕ) where
   -- from u to v, which has its cursors moved, with the rows put; no frame is open then
   frame-holds : (u v : UnitState) (store rows rings read : List Float) (a : Account) → Holds u store a → Lent m u (length store)
       → length rows ≡ m .lines * u .settings .frame → read ≡ readRow m u i store
-      → v .settings .frame ≡ u .settings .frame → v .cursors .lines ≡ allMoved (u .settings .frame) (lengths m u) (u .cursors .lines) → length (v .held .marks) ≡ jobsLen m → v .held .busy ≡ false
+      → v .settings ≡ u .settings → v .cursors .lines ≡ allMoved (u .settings .frame) (lengths m u) (u .cursors .lines) → length (v .held .marks) ≡ jobsLen m → v .held .busy ≡ false
       → Holds v (putRows (u .settings .frame) (m .lines) 0 (lengths m u) (u .cursors .lines) rows rings store) (turned a read (row (u .settings .frame) i rows))
-  frame-holds u v store rows rings read a inv lent e q vf vl vm vb =
+  frame-holds u v store rows rings read a inv lent e q vs vl vm vb =
       let line = inv .line in
       let t = ring-turn m i h u store lent (line .lines) (line .equal) rows rings e in
       let g = u .settings .frame in
       let put = row g i rows in
-      let new = view m i g (allMoved g (lengthsOf m g) (u .cursors .lines)) (putRows g (m .lines) 0 (lengthsOf m g) (u .cursors .lines) rows rings store) in
+      let ls = lengths m u in
+      let new = view ls i (allMoved g ls (u .cursors .lines)) (putRows g (m .lines) 0 ls (u .cursors .lines) rows rings store) in
       record {
         line = record {
-          frame = vf ∙ line .frame;
-          lines = ap length vl ∙ length-moved g (lengthsOf m g) (u .cursors .lines) ∙ line .lines;
+          lines = ap length vl ∙ length-moved g ls (u .cursors .lines) ∙ line .lines;
           equal = rw vl (equal-moved m i h u store lent (line .lines) (line .equal));
           marks = vm;
         };
-        even = rw (q, vl, vf)
+        even = rw (q, vl, vs)
             record {
-              all = turn-even (replicate (getD (lengthsOf m f) i 0) +0) (a .given) (a .out) _ new (readRow m u i store) put (inv .even .all) t;
+              all = turn-even (replicate l +0) (a .given) (a .out) _ new (readRow m u i store) put (inv .even .all) t;
               long = turn-long (a .given) (a .out) _ new (readRow m u i store) put (inv .even .long) t;
             };
         waits = λ b. absurd (true≢false (sym b ∙ vb));
@@ -113,14 +113,14 @@ module _ (m : Model) (i : ℕ) (h : i < m .lines) (f : ℕ) where
 
   -- ---- a call that leaves the store and the cursors
 
-  kept-holds : (u v : UnitState) (store : List Float) (a : Account) → Holds u store a → v .settings .frame ≡ u .settings .frame → v .cursors .lines ≡ u .cursors .lines
+  kept-holds : (u v : UnitState) (store : List Float) (a : Account) → Holds u store a → v .settings ≡ u .settings → v .cursors .lines ≡ u .cursors .lines
       → length (v .held .marks) ≡ jobsLen m → (v .held .busy ≡ true → marked v i ≡ true → a .waiting ≡ readRow m u i store) → Holds v store a
-  kept-holds u v store a inv vf vl vm w =
+  kept-holds u v store a inv vs vl vm w =
       let line = inv .line in
       record {
-        line = record { frame = vf ∙ line .frame; lines = ap length vl ∙ line .lines; equal = rw vl (line .equal); marks = vm };
-        even = rw (vl, vf) record { all = inv .even .all; long = inv .even .long };
-        waits = λ b c. rw (vl, vf) (w b c);
+        line = record { lines = ap length vl ∙ line .lines; equal = rw vl (line .equal); marks = vm };
+        even = rw (vl, vs) record { all = inv .even .all; long = inv .even .long };
+        waits = λ b c. rw (vl, vs) (w b c);
       }
 
   -- a frame that is opened has no mark, and one that is shut isn't open
@@ -144,7 +144,6 @@ module _ (m : Model) (i : ℕ) (h : i < m .lines) (f : ℕ) where
       → Holds (unitMarked u k fs) store (record { out = a .out; given = a .given; waiting = waiting })
   this-job u k store waiting a inv e = record {
     line = record {
-      frame = inv .line .frame;
       lines = inv .line .lines;
       equal = inv .line .equal;
       marks = length-set (u .held .marks) k true ∙ inv .line .marks;
@@ -319,7 +318,7 @@ module _ (m : Model) (i : ℕ) (h : i < m .lines) (f : ℕ) where
 
   law : (w : Memory) (a : Account) (rs : List Request) → AllPlay m w rs → Holds (w .unit) (w .store) a
       → let b = account m i w a rs in
-      b .out ≡ take (length (b .given)) (replicate (getD (lengthsOf m f) i 0) +0 ++ b .given)
+      b .out ≡ take (length (b .given)) (replicate l +0 ++ b .given)
   unfolding account AllPlay
   law w a [] p inv = rw (inv .even .all) (sym (take-at (a .out) _ (length (a .given)) (inv .even .long)))
   law w a (fresh rate frame s ∷ rs) p inv =
@@ -334,30 +333,28 @@ nothing = record { out = []; given = []; waiting = [] }
 
 module _ (m : Model) (i : ℕ) (h : i < m .lines) where
   silent-view : (u : UnitState) (store : ℕ) → store ≡ storeLen m (lengths m u) → cursors u i .read .0 ≤ getD (lengths m u) i 0
-      → view m i (u .settings .frame) (u .cursors .lines) (replicate store +0) ≡ replicate (getD (lengths m u) i 0) +0
+      → view (lengths m u) i (u .cursors .lines) (replicate store +0) ≡ replicate (getD (lengths m u) i 0) +0
   unfolding storeLen
   silent-view u store e b =
-      let f = u .settings .frame in
-      let same = ring-same f (lengthsOf m f) (m .lines) 0 i store +0 h (lines-held m f store (omega arith)) in
-      rw (same, zero-add) (rotl-same (getD (lengthsOf m f) i 0) (cursors u i .read .0) +0 b)
+      let same = ring-same (u .settings .frame) (lengths m u) (m .lines) 0 i store +0 h (lines-held m u store (omega arith)) in
+      rw (same, zero-add) (rotl-same (getD (lengths m u) i 0) (cursors u i .read .0) +0 b)
 
   -- with no frame open
   from-silence : (u : UnitState) (store : ℕ) → store ≡ storeLen m (lengths m u) → cursors u i .read .0 ≤ getD (lengths m u) i 0 → u .held .busy ≡ false
-      → Line m i h (u .settings .frame) u → Holds m i h (u .settings .frame) u (replicate store +0) nothing
+      → Line m i h (getD (lengths m u) i 0) u → Holds m i h (getD (lengths m u) i 0) u (replicate store +0) nothing
   from-silence u store e b free line = record {
     line = line;
     even = record { all = append-nil (replicate (getD (lengths m u) i 0) +0) ∙ sym (silent-view u store e b); long = refl };
     waits = λ q. absurd (true≢false (sym q ∙ free));
   }
 
-  begins : (w : Memory) → Silent m w → Holds m i h (w .unit .settings .frame) (w .unit) (w .store) nothing
+  begins : (w : Memory) → Silent m w → Holds m i h (getD (lengths m (w .unit)) i 0) (w .unit) (w .store) nothing
   unfolding ending
   begins w (freshly w₀ rate frame e) =
       let c = getD-replicate (m .lines) i (both 0) (both 0) h in
       rw e
       (from-silence (freshUnit m rate frame) (length (w₀ .store)) (fresh-long m rate frame (length (w₀ .store)) e) (rw c (omega arith)) refl
       record {
-        frame = refl;
         lines = length-replicate (m .lines) (both 0);
         equal = rw c refl;
         marks = length-replicate (jobsLen m) false;
@@ -368,7 +365,7 @@ module _ (m : Model) (i : ℕ) (h : i < m .lines) where
       let near = within m u i (t .0 .range) (omega (arith, sized .lines)) in
       rw e
       (from-silence (counted u (pos 0)) (length (w₀ .store)) (t .0 .long) (omega arith) (t .1)
-      record { frame = refl; lines = sized .lines; equal = together .lines i; marks = sized .marks })
+      record { lines = sized .lines; equal = together .lines i; marks = sized .marks })
 
 pub line-law : LineLaw
-line-law m w silent i h rs p = law m i h (w .unit .settings .frame) w nothing rs p (begins m i h w silent)
+line-law m w silent i h rs p = law m i h (getD (lengths m (w .unit)) i 0) w nothing rs p (begins m i h w silent)

@@ -13,8 +13,9 @@ use Rattle.delay.specs.Calls.{both}
 use Rattle.delay.specs.Ring.{read, write}
 use Rattle.delay.proofs.Laws.{length-read, length-write}
 use Rattle.unit.proofs.Ranges.{length-at, lengths-long}
+use Rattle.unit.specs.UnitState.{UnitState}
 use Rattle.unit.specs.Model.{Model}
-use Rattle.unit.specs.Sizes.{total, lengthsOf}
+use Rattle.unit.specs.Sizes.{total, lengths}
 use Rattle.stages.specs.Lines.{readRows}
 use Rattle.stages.specs.Settle.{putRows, movedBy, allMoved}
 use Rattle.stages.proofs.RowLaws.{Held, total-more}
@@ -102,20 +103,20 @@ module _ (f : ℕ) (ls : List ℕ) where
         rw (on j i, drop-at _ _ (getD ls j 0) (first-written n j rows store r))
         (put-row n (j + 1) i (drop f rows) rings (drop (getD ls j 0) store) (omega arith) (rest-held store n j r))
 
--- ---- a model's lines
+-- ---- a unit's lines
 
-module _ (m : Model) (f : ℕ) where
-  pub lines-long : length (lengthsOf m f) ≡ m .lines
-  lines-long = lengths-long m f (m .lines) 0
+module _ (m : Model) (u : UnitState) where
+  pub lines-long : length (lengths m u) ≡ m .lines
+  lines-long = lengths-long m (u .settings) (m .lines) 0
 
-  pub line-length : (i : ℕ) → i < m .lines → getD (lengthsOf m f) i 0 ≡ m .delay i + f
-  line-length i h = rw zero-add at (length-at m f (m .lines) 0 i h)
+  pub line-length : (i : ℕ) → i < m .lines → getD (lengths m u) i 0 ≡ m .delay i + u .settings .frame
+  line-length i h = rw zero-add at (length-at m (u .settings) (m .lines) 0 i h)
 
-  pub lines-held : (len : ℕ) → total (lengthsOf m f) ≤ len → Held f (m .lines) 0 (lengthsOf m f) len
+  pub lines-held : (len : ℕ) → total (lengths m u) ≤ len → Held (u .settings .frame) (m .lines) 0 (lengths m u) len
   lines-held len h =
-      let ls = lengthsOf m f in
+      let ls = lengths m u in
       let e : take (m .lines) ls ≡ ls = take-all (m .lines) ls (omega (arith, lines-long)) in
-      held f ls (m .lines) 0 len (λ i b. rw (zero-add i) (omega (arith, line-length i b))) (rw e h)
+      held (u .settings .frame) ls (m .lines) 0 len (λ i b. rw (zero-add i) (omega (arith, line-length i b))) (rw e h)
 
 -- ---- cursors
 

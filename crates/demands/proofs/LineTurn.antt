@@ -16,7 +16,7 @@ use Rattle.delay.specs.Ring.{rotl, wrap}
 use Rattle.delay.proofs.Laws.{wrap-mod, read-view, length-rotl, length-read, turn-view}
 use Rattle.unit.specs.UnitState.{UnitState}
 use Rattle.unit.specs.Model.{Model}
-use Rattle.unit.specs.Sizes.{storeLen, workLen, lengthsOf}
+use Rattle.unit.specs.Sizes.{lengths, storeLen, workLen}
 use Rattle.stages.specs.Settle.{putRows, movedBy, allMoved}
 use Rattle.stages.proofs.RowLaws.{Held}
 use Rattle.rows.specs.Rows.{Rows, rowsOf}
@@ -35,16 +35,16 @@ pub record Turn (old new out given : List Float) : Type 0 where
   pub taken : out ≡ take (length given) old
   pub then : new ≡ drop (length given) old ++ given
 
--- line i's ring as it lies from the read cursor on
-abbrev pub view : Model → ℕ → ℕ → List Cursors → List Float → List Float
-view m i f cs store = rotl (getD cs i (both 0) .read .0) (ringAt (lengthsOf m f) 0 i store)
+-- line i's ring as it lies from the read cursor on, where the lines' rings have the lengths ls and the cursors cs
+abbrev pub view : List ℕ → ℕ → List Cursors → List Float → List Float
+view ls i cs store = rotl (getD cs i (both 0) .read .0) (ringAt ls 0 i store)
 
 module _ (m : Model) (i : ℕ) (h : i < m .lines) (u : UnitState) (store : List Float) (lent : Lent m u (length store)) where
   abbrev f : ℕ
   f = u .settings .frame
 
   abbrev ls : List ℕ
-  ls = lengthsOf m f
+  ls = lengths m u
 
   abbrev ring : List Float
   ring = ringAt ls 0 i store
@@ -54,14 +54,14 @@ module _ (m : Model) (i : ℕ) (h : i < m .lines) (u : UnitState) (store : List 
 
   pub held : Held f (m .lines) 0 ls (length store)
   unfolding storeLen
-  held = lines-held m f (length store) (omega (arith, lent .long))
+  held = lines-held m u (length store) (omega (arith, lent .long))
 
   -- its length, which holds a frame
   abbrev l : ℕ
   l = getD ls i 0
 
   holds : f ≤ l
-  holds = omega (arith, line-length m f i h)
+  holds = omega (arith, line-length m u i h)
 
   ring-is : length ring ≡ l
   ring-is = rw zero-add at (ring-long f ls (m .lines) 0 i store h held)
@@ -73,14 +73,14 @@ module _ (m : Model) (i : ℕ) (h : i < m .lines) (u : UnitState) (store : List 
 
   module _ (lines : length (u .cursors .lines) ≡ m .lines) where
     moved : getD (allMoved f ls (u .cursors .lines)) i (both 0) ≡ movedBy f (getD ls i 0) (cursors u i)
-    moved = moved-at f ls (u .cursors .lines) i (omega (arith, lines-long m f)) (omega arith)
+    moved = moved-at f ls (u .cursors .lines) i (omega (arith, lines-long m u)) (omega arith)
 
     pub equal-moved : cursors u i .read ≡ cursors u i .write
         → getD (allMoved f ls (u .cursors .lines)) i (both 0) .read ≡ getD (allMoved f ls (u .cursors .lines)) i (both 0) .write
     equal-moved e = rw moved (ap (λ (c : Samples). record { 0 = (c .0 + f) % getD ls i 0 }) e)
 
     pub ring-turn : cursors u i .read ≡ cursors u i .write → (rows rings : List Float) → length rows ≡ m .lines * f
-        → Turn (view m i f (u .cursors .lines) store) (view m i f (allMoved f ls (u .cursors .lines)) (putRows f (m .lines) 0 ls (u .cursors .lines) rows rings store))
+        → Turn (view ls i (u .cursors .lines) store) (view ls i (allMoved f ls (u .cursors .lines)) (putRows f (m .lines) 0 ls (u .cursors .lines) rows rings store))
         (readRow m u i store) (row f i rows)
     ring-turn equal rows rings e =
         let put = row f i rows in

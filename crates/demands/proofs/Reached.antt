@@ -27,7 +27,7 @@ use Rattle.iir.specs.declared.Filter.{Filter}
 use Rattle.iir.specs.Nine.{nine}
 use Rattle.unit.specs.UnitState.{Settings, RingCursors, UnitState}
 use Rattle.unit.specs.Model.{Model}
-use Rattle.unit.specs.Sizes.{lengthsFrom, lengthsOf, lengths, filtersLen, jobsLen, Sized}
+use Rattle.unit.specs.Sizes.{lengthsFrom, lengths, filtersLen, jobsLen, Sized}
 use Rattle.unit.specs.Fresh.{blank, noFrame, freshUnit}
 use Rattle.unit.specs.Range.{below, cursorsIn, unmarked, blankFilters, blankOpen, inRange}
 use Rattle.judges.specs.Judges.{judgedFresh}
@@ -78,12 +78,12 @@ module _ (ls : List ℕ) where
   fresh-in n q s = fresh-from 0 0 n ls refl q s
 
 -- the lines of a unit of frames in range
-lines-some : (m : Model) (f n i k : ℕ) → 0 < f → (allFrom (λ i l. ltb 0 l) k (lengthsFrom m f n i) ≡ true) × (length (lengthsFrom m f n i) ≡ n)
+lines-some : (m : Model) (s : Settings) (n i k : ℕ) → 0 < s .frame → (allFrom (λ i l. ltb 0 l) k (lengthsFrom m s n i) ≡ true) × (length (lengthsFrom m s n i) ≡ n)
 unfolding lengthsFrom
-lines-some m f zero i k h = (refl, refl)
-lines-some m f (suc n) i k h =
-    let rest = lines-some m f n (i + 1) (suc k) h in
-    (join-and (lt-ltb 0 (m .delay i + f) (omega arith)) (rest .0), ap suc (rest .1))
+lines-some m s zero i k h = (refl, refl)
+lines-some m s (suc n) i k h =
+    let rest = lines-some m s n (i + 1) (suc k) h in
+    (join-and (lt-ltb 0 (m .delay i + s .frame) (omega arith)) (rest .0), ap suc (rest .1))
 
 -- ---- filters keep their number
 
@@ -149,14 +149,14 @@ module _ (m : Model) (built : Built m) where
       let f = u .settings .frame in
       record {
         sizes = ap (λ (x : Settings). rateOk (x .rate) && frameOk (x .frame)) s ∙ p .sizes;
-        lines = (λ i. cursorsIn (lengthsOf m (s i .frame)) (c i .lines)) ∙ cursors-moved f (lengths m u) (u .cursors .lines) (p .lines);
+        lines = (λ i. cursorsIn (lengthsFrom m (s i) (m .lines) 0) (c i .lines)) ∙ cursors-moved f (lengths m u) (u .cursors .lines) (p .lines);
         passes = (λ i. cursorsIn (m .passes) (c i .passes)) ∙ cursors-moved f (m .passes) (u .cursors .passes) (p .passes);
       }
 
   same-parts : (u v : UnitState) → Parts m u → v .settings ≡ u .settings → v .cursors ≡ u .cursors → Parts m v
   same-parts u v p s c = record {
     sizes = ap (λ (x : Settings). rateOk (x .rate) && frameOk (x .frame)) s ∙ p .sizes;
-    lines = (λ i. cursorsIn (lengthsOf m (s i .frame)) (c i .lines)) ∙ p .lines;
+    lines = (λ i. cursorsIn (lengthsFrom m (s i) (m .lines) 0) (c i .lines)) ∙ p .lines;
     passes = (λ i. cursorsIn (m .passes) (c i .passes)) ∙ p .passes;
   }
 
@@ -165,7 +165,7 @@ module _ (m : Model) (built : Built m) where
   fresh-reached : (rate frame : ℕ) → (rateOk rate && frameOk frame) ≡ true → Reached m (freshUnit m rate frame)
   fresh-reached rate frame ok =
       let some : 0 < frame = omega (arith, frame-of frame (split-and (rateOk rate) (frameOk frame) ok .1) .lo) in
-      let lines = lines-some m frame (m .lines) 0 0 some in
+      let lines = lines-some m (freshUnit m rate frame .settings) (m .lines) 0 0 some in
       record {
         sized = record {
           lines = length-replicate (m .lines) (both 0);
@@ -178,7 +178,7 @@ module _ (m : Model) (built : Built m) where
             free-range m (freshUnit m rate frame)
             (record {
               sizes = ok;
-              lines = fresh-in (lengthsOf m frame) (m .lines) (lines .1) (lines .0);
+              lines = fresh-in (lengths m (freshUnit m rate frame)) (m .lines) (lines .1) (lines .0);
               passes = fresh-in (m .passes) (length (m .passes)) refl (built .some);
             })
             refl;

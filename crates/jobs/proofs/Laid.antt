@@ -100,7 +100,7 @@ module _ (u : UnitState) (work : List Float) (room : Bool) (e : room ≡ true) w
         → work′ ≡ readLaid wall (u .settings .frame) (lengths wall u) i (getD (u .cursors .lines) i (both 0)) room store work → work′ ≡ readWork wall u i store work
     unfolding readLaid readWork
     read-work store work′ h hold long fits all q =
-        q ∙ rw (e, read-given (u .settings .frame) (lengths wall u) i store work h (lengths-long wall (u .settings .frame) 16 0) hold long fits (u .cursors .lines) all) refl
+        q ∙ rw (e, read-given (u .settings .frame) (lengths wall u) i store work h (lengths-long wall (u .settings) 16 0) hold long fits (u .cursors .lines) all) refl
 
 -- a job is let by for a line of the unit's alone
 pub line-of : (u : UnitState) (lent line turn : Bool) → judged wall u lent line turn ≡ Accepted → line ≡ true

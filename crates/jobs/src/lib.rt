@@ -36,7 +36,7 @@ pub fn job_read(s: State, line: usize, store: &[f32], work: &mut [f32]) -> Outco
         return quiet(answer, s);
     }
     let f = s.frame;
-    let ls = lengths(f);
+    let ls = lengths(s);
     let cs = s.lines;
     let c = cs[line];
     let fs = s.filters;

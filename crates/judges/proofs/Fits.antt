@@ -17,7 +17,7 @@ use Rattle.bands.specs.Times.{timesOk}
 use Rattle.bands.specs.Tail.{tailCount, countOf}
 use Rattle.unit.specs.UnitState.{UnitState}
 use Rattle.unit.specs.Model.{wall}
-use Rattle.unit.specs.Sizes.{lengthsOf, lengths, workLen}
+use Rattle.unit.specs.Sizes.{lengths, workLen}
 use Rattle.unit.specs.Range.{cursorsIn, inRange, blankOpen}
 use Rattle.unit.specs.Room.{roomOk}
 use Rattle.judges.specs.Judges.{judged, judgedApply, judgedGiven, storeOk, lentOk, givenOk}
@@ -45,12 +45,12 @@ pub room-of : {lent-ok : Bool} (u : UnitState) (store work output : ℕ) → Due
 unfolding roomOk
 room-of u store work output d lent =
     let frame = split-and (rateOk (u .settings .rate)) (frameOk (u .settings .frame)) (d .sizes) .1 in
-    join-and frame (join-and (wall-holds (u .settings .frame) (frame-of _ frame .hi)) (join-and (d .cursors) lent))
+    join-and frame (join-and (wall-holds u (frame-of _ frame .hi)) (join-and (d .cursors) lent))
 
--- and the lengths that the code asks of the frame are the unit's
+-- and the lengths that the code asks are the unit's
 pub lengths-are : (u : UnitState) (store work output : ℕ) (ls : List ℕ)
     → roomOk wall (u .settings .frame) (lengths wall u) (u .cursors .lines) (u .cursors .passes) store work output ≡ true
-    → ls ≡ cond (frameOk (u .settings .frame)) (lengthsOf wall (u .settings .frame)) (replicate 16 0) → ls ≡ lengths wall u
+    → ls ≡ cond (frameOk (u .settings .frame)) (lengths wall u) (replicate 16 0) → ls ≡ lengths wall u
 unfolding roomOk
 lengths-are u store work output ls room e = e ∙ rw (split-and (frameOk (u .settings .frame)) _ room .0) refl
 

@@ -16,21 +16,23 @@ use Rattle.bands.specs.declared.Times.{Times}
 use Rattle.bands.specs.Times.{timesOk}
 use Rattle.unit.specs.UnitState.{UnitState}
 use Rattle.unit.specs.Model.{Model}
-use Rattle.unit.specs.Sizes.{lengthsOf, lengths, storeLen, workLen, coefficientsLen}
+use Rattle.unit.specs.Sizes.{lengths, storeLen, workLen, coefficientsLen}
+use Rattle.unit.specs.Fresh.{freshUnit}
 use Rattle.unit.specs.Range.{inRange}
 
--- R2.20: fresh, 2 and then 3
+abbrev pub storeOk : Model → UnitState → ℕ → Bool
+storeOk m u store = eqb store (storeLen m (lengths m u))
+
+-- R2.20: fresh, 2 and then 3, unless the store is that of the unit to be given
 unfoldable pub judgedFresh : Model → ℕ → ℕ → ℕ → Answer
-judgedFresh m rate frame store = need (rateOk rate && frameOk frame) BadSize (need (eqb store (storeLen m (lengthsOf m frame))) BadLength Accepted)
+judgedFresh m rate frame store =
+    need (rateOk rate && frameOk frame) BadSize (need (storeOk m (freshUnit m rate frame) store) BadLength Accepted)
 
 -- R2.11, R2.13 to R2.15: any other call of the unit. 1, then 3 unless every lent slice has its length, 4 unless its line is one, and 5 unless
 -- it is its turn
 unfoldable pub judged : Model → UnitState → Bool → Bool → Bool → Answer
 judged m u lent line turn =
     need (inRange m u) BadState (need lent BadLength (need line BadIndex (need turn OutOfTurn Accepted)))
-
-abbrev pub storeOk : Model → UnitState → ℕ → Bool
-storeOk m u store = eqb store (storeLen m (lengths m u))
 
 abbrev pub workOk : Model → UnitState → ℕ → Bool
 workOk m u work = eqb work (workLen m (u .settings .frame))

@@ -27,6 +27,7 @@ pub use turns::judge_read;
 use unit::COEFFICIENTS;
 use unit::PER_FILTER;
 use unit::State;
+use unit::fresh_state;
 use unit::in_range;
 use unit::lent_ok;
 use unit::store_ok;
@@ -63,7 +64,11 @@ pub fn judge_fresh(rate: u32, frame: usize, store: usize) -> Answer
     need(
         and(rate_ok(rate), frame_ok(frame)),
         Answer::BadSize,
-        need(store_ok(frame, store), Answer::BadLength, Answer::Accepted),
+        need(
+            store_ok(fresh_state(rate, frame), store),
+            Answer::BadLength,
+            Answer::Accepted,
+        ),
     )
 }
 
@@ -71,18 +76,16 @@ pub fn judge_fresh(rate: u32, frame: usize, store: usize) -> Answer
 pub fn judge_reset(s: State, store: usize) -> Answer
     ensures { λ r. ⌜ r ≡ judgedReset wall (ofState s) store ⌝ }
 {
-    let frame = s.frame;
     let busy = s.busy;
-    judge(s, store_ok(frame, store), true, !busy)
+    judge(s, store_ok(s, store), true, !busy)
 }
 
 // A whole tail, its output not judged yet (R2.23).
 pub fn judge_tail(s: State, store: usize, work: usize, output: usize) -> Answer
     ensures { λ r. ⌜ r ≡ judgedTail wall (ofState s) store work output ⌝ }
 {
-    let frame = s.frame;
     let busy = s.busy;
-    judge(s, lent_ok(frame, store, work, output), true, !busy)
+    judge(s, lent_ok(s, store, work, output), true, !busy)
 }
 
 // A whole apply, its output not judged yet (R2.22).
@@ -100,7 +103,7 @@ pub fn judge_apply(
     let frame = s.frame;
     let busy = s.busy;
     let given = and(coefficients.len() == COEFFICIENTS, input.len() == frame);
-    let lent = and(given, lent_ok(frame, store, work, output));
+    let lent = and(given, lent_ok(s, store, work, output));
     or_else(
         judge(s, lent, true, !busy),
         judge_given(t, coefficients, input),

@@ -37,7 +37,7 @@ pub fn judge_open_apply(
     let frame = s.frame;
     let busy = s.busy;
     let given = and(coefficients.len() == COEFFICIENTS, input.len() == frame);
-    let lent = and(store_ok(frame, store), work_ok(frame, work));
+    let lent = and(store_ok(s, store), work_ok(frame, work));
     or_else(
         judge(s, and(given, lent), true, !busy),
         judge_given(t, coefficients, input),
@@ -52,7 +52,7 @@ pub fn judge_open_tail(s: State, store: usize, work: usize) -> Answer
     let busy = s.busy;
     judge(
         s,
-        and(store_ok(frame, store), work_ok(frame, work)),
+        and(store_ok(s, store), work_ok(frame, work)),
         true,
         !busy,
     )
@@ -67,7 +67,7 @@ pub fn judge_read(s: State, line: usize, store: usize, work: usize) -> Answer
     let marks = s.marks;
     judge(
         s,
-        and(store_ok(frame, store), work_ok(frame, work)),
+        and(store_ok(s, store), work_ok(frame, work)),
         line < LINES,
         and(busy, !marked(marks, line)),
     )
@@ -110,12 +110,11 @@ pub fn judge_output(s: State, work: usize) -> Answer
 pub fn judge_close(s: State, store: usize, work: usize, output: usize) -> Answer
     ensures { λ r. ⌜ r ≡ judgedClose wall (ofState s) store work output ⌝ }
 {
-    let frame = s.frame;
     let busy = s.busy;
     let marks = s.marks;
     judge(
         s,
-        lent_ok(frame, store, work, output),
+        lent_ok(s, store, work, output),
         true,
         and(busy, all_done(marks)),
     )

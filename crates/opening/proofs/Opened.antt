@@ -15,7 +15,7 @@ use Rattle.samples.proofs.Laws.{split-and, join-and}
 use Rattle.samples.proofs.Turns.{middle}
 use Rattle.unit.specs.UnitState.{UnitState}
 use Rattle.unit.specs.Model.{wall}
-use Rattle.unit.specs.Sizes.{lengthsOf, total, storeLen}
+use Rattle.unit.specs.Sizes.{lengths, total, storeLen}
 use Rattle.judges.specs.Judges.{storeOk, workOk}
 use Rattle.stages.specs.Steps.{copied}
 use Rattle.stages.proofs.RowLaws.{copied-all}
@@ -28,11 +28,11 @@ use Rattle.stages.specs.Frame.{passesIn}
 use Rattle.machine.specs.Jobs.{openLaid}
 
 -- an accepted open is lent a store and a work memory of its unit's frames
-pub record OpenFits (f store work : ℕ) : Type 0 where
-  pub fits : WorkFits wall f work
-  pub rings : store ≡ storeLen wall (lengthsOf wall f)
+pub record OpenFits (u : UnitState) (store work : ℕ) : Type 0 where
+  pub fits : WorkFits wall (u .settings .frame) work
+  pub rings : store ≡ storeLen wall (lengths wall u)
 
-pub open-fits : (u : UnitState) (store work : ℕ) → Due u (storeOk wall u store && workOk wall u work) → OpenFits (u .settings .frame) store work
+pub open-fits : (u : UnitState) (store work : ℕ) → Due u (storeOk wall u store && workOk wall u work) → OpenFits u store work
 open-fits u store work d =
     let l = split-and (storeOk wall u store) (workOk wall u work) (d .lent) in
     let frame = split-and (rateOk (u .settings .rate)) (frameOk (u .settings .frame)) (d .sizes) .1 in
@@ -57,21 +57,23 @@ rows-of-zeros f rings =
     ∙ ap (λ (l : List Float). replicate (16 * f) +0 ++ l) (append-assoc (replicate (16 * f) +0) (replicate f +0) rings))
 
 -- the parts of a store
-pub lines-before : (f store : ℕ) → store ≡ storeLen wall (lengthsOf wall f) → total (lengthsOf wall f) + total (wall .passes) ≡ store
+pub lines-before : (u : UnitState) (store : ℕ) → store ≡ storeLen wall (lengths wall u) → total (lengths wall u) + total (wall .passes) ≡ store
 unfolding storeLen
-lines-before f store e = sym e
+lines-before u store e = sym e
 
 -- the rings copied to the end of a work memory that is all +0
-pub begin-laid : (f : ℕ) (store w x : List Float) (n : ℕ) → WorkFits wall f n → length store ≡ storeLen wall (lengthsOf wall f) → w ≡ replicate n +0
-    → let b = 34 * f in
+pub begin-laid : (u : UnitState) (store w x : List Float) (n : ℕ) → WorkFits wall (u .settings .frame) n → length store ≡ storeLen wall (lengths wall u) → w ≡ replicate n +0
+    → let f = u .settings .frame in
+    let b = 34 * f in
     let a = length store - (length w - b) in
     x ≡ copied (take (length store - a) (drop a store)) (take (length w - b) (drop b w))
-    → putMid b (length w - b) w x ≡ openLaid wall f (replicate f +0) (passesIn (lengthsOf wall f) store)
+    → putMid b (length w - b) w x ≡ openLaid wall f (replicate f +0) (passesIn (lengths wall u) store)
 unfolding openLaid joined
-begin-laid f store w x n h e z ex =
-    let t = total (lengthsOf wall f) in
+begin-laid u store w x n h e z ex =
+    let f = u .settings .frame in
+    let t = total (lengths wall u) in
     let rings = total (wall .passes) in
-    let parts = lines-before f (length store) e in
+    let parts = lines-before u (length store) e in
     let long : length w ≡ n = ap length z ∙ length-replicate n +0 in
     let sum : n ≡ 34 * f + rings = omega (arith, h .work-is) in
     let all : w ≡ replicate (34 * f) +0 ++ replicate rings +0 =

@@ -10,7 +10,7 @@ ghost use mathlib.Core.Path.{_≡_};
 ghost use lib.ListN.{length};
 ghost use Rattle.unit.specs.UnitState.{ofState, toState};
 ghost use Rattle.unit.specs.Model.{wall};
-ghost use Rattle.unit.specs.Sizes.{lengthsOf, storeLen};
+ghost use Rattle.unit.specs.Sizes.{lengths, storeLen};
 ghost use Rattle.rows.specs.Workers.{WorkFits};
 ghost use Rattle.machine.specs.Jobs.{unitOpen};
 ghost use Rattle.opening.specs.Workers.{silentLaid};
@@ -30,12 +30,13 @@ pub(crate) fn opened(s: State, tail: bool, filters: [Filter; FILTERS], next: Fra
     t
 }
 
-// Sets every float of the work memory for a frame: the allpass rings as they are in the store, and
-// else +0.
-pub(crate) fn begin_work(f: usize, store: &[f32], work: &mut [f32])
-    requires { ⌜ WorkFits wall f (length (now work)) × (length (now store) ≡ storeLen wall (lengthsOf wall f)) ⌝ }
-    ensures { λ _. ⌜ now (work .exit) ≡ silentLaid f (now (store .entry)) ⌝ }
+// Sets every float of the work memory for a frame of a unit: the allpass rings as they are in the store,
+// and else +0.
+pub(crate) fn begin_work(s: State, store: &[f32], work: &mut [f32])
+    requires { ⌜ WorkFits wall (s .frame) (length (now work)) × (length (now store) ≡ storeLen wall (lengths wall (ofState s))) ⌝ }
+    ensures { λ _. ⌜ now (work .exit) ≡ silentLaid (ofState s) (now (store .entry)) ⌝ }
 {
+    let f = s.frame;
     clear(work);
     let b = ROWS * f;
     let a = store.len() - (work.len() - b);

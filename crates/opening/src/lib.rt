@@ -41,7 +41,7 @@ pub fn open_apply(
     let f = s.frame;
     let tail = tail_count(t, rate, f);
     let fs = filters_of(coefficients);
-    begin_work(f, store, work);
+    begin_work(s, store, work);
     stages::copy(input, &mut work[0..f]);
     quiet(answer, opened(s, false, fs, tail.count))
 }
@@ -55,9 +55,8 @@ pub fn open_tail(s: State, store: &[f32], work: &mut [f32]) -> Outcome
     if !is_accepted(answer) {
         return quiet(answer, s);
     }
-    let f = s.frame;
     let fs = s.filters;
     let count = s.count;
-    begin_work(f, store, work);
+    begin_work(s, store, work);
     quiet(answer, opened(s, true, fs, fallen(count)))
 }

@@ -68,7 +68,7 @@ pub(crate) fn whole_frame(
     ensures { λ _. ⌜ now (output .exit) ≡ playing s tail fs (count .0) (now (store .entry)) (now (work .entry)) (now (output .entry)) .output ⌝ }
 {
     let f = s.frame;
-    let lengths = lengths(f);
+    let lengths = lengths(s);
     let lines = s.lines;
     let passes = s.passes;
     let rings = Rings {

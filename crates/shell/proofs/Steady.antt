@@ -18,7 +18,7 @@ use Rattle.iir.specs.Nine.{nine}
 use Rattle.unit.specs.UnitState.{Settings, UnitState}
 use Rattle.unit.specs.Model.{wall}
 use Rattle.unit.specs.Fresh.{noFrame, freshUnit}
-use Rattle.unit.specs.Sizes.{lengthsFrom, lengthsOf, total, storeLen, workLen}
+use Rattle.unit.specs.Sizes.{lengthsFrom, lengths, total, storeLen, workLen}
 use Rattle.unit.specs.Range.{below, cursorsIn, unmarked, blankFilters, blankOpen, inRange}
 use Rattle.judges.specs.Judges.{judged}
 use Rattle.stages.specs.Frame.{newFilters}
@@ -35,7 +35,7 @@ use Rattle.shell.proofs.Left.{left}
 -- set as the program sets it, every cursor below its ring's length, no frame open
 pub record Steady (u : UnitState) : Type 0 where
   pub set-to : u .settings ≡ record { rate = rate; frame = frame }
-  pub lines-in : cursorsIn (lengthsOf wall frame) (u .cursors .lines) ≡ true
+  pub lines-in : cursorsIn (lengths wall u) (u .cursors .lines) ≡ true
   pub passes-in : cursorsIn (wall .passes) (u .cursors .passes) ≡ true
   pub shut : u .held ≡ noFrame wall
 
@@ -48,13 +48,10 @@ begins = record { set-to = refl; lines-in = refl; passes-in = refl; shut = refl 
 steady-play : (u : UnitState) (p : Play) (store work : List Float) → Steady u → Steady (playEnds u p store work .memory .unit)
 steady-play u p store work s = rw (left u p store work .0) (accept-either Steady (playEnds u p store work .answer) (λ _. on) (λ _. s))
   where
-    lines : (f : ℕ) → frame ≡ f → cursorsIn (lengthsOf wall frame) (allMoved f (lengthsOf wall f) (u .cursors .lines)) ≡ true
-    lines f e = rw (← e) (cursors-moved frame (lengthsOf wall frame) (u .cursors .lines) (s .lines-in))
-
     on : Steady (movedOn wall u (newFilters (frameFor wall u p store)) (countFor u p))
     on = record {
       set-to = s .set-to;
-      lines-in = lines (u .settings .frame) (ap (λ (z : Settings). z .frame) (sym (s .set-to)));
+      lines-in = cursors-moved (u .settings .frame) (lengths wall u) (u .cursors .lines) (s .lines-in);
       passes-in = cursors-moved (u .settings .frame) (wall .passes) (u .cursors .passes) (s .passes-in);
       shut = s .shut;
     }
@@ -69,7 +66,7 @@ steady-through u (tail store work ∷ ps) s = steady-through (tailEnds u store w
 
 in-range : (u : UnitState) → Steady u → inRange wall u ≡ true
 unfolding inRange rateOk frameOk unmarked blankFilters blankOpen nine plusZero ofBits
-in-range u s = rw (s .set-to, s .shut, s .lines-in, s .passes-in)
+in-range u s = rw (s .lines-in, s .passes-in, s .set-to, s .shut)
 
 ready : (u : UnitState) → Steady u → (readyDue u ≡ Accepted) × (tailDue u ≡ Accepted)
 unfolding judged lengthsFrom total storeLen workLen

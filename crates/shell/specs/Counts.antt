@@ -8,7 +8,7 @@ use Rattle.samples.specs.Answers.{accepted}
 use Rattle.unit.specs.UnitState.{UnitState}
 use Rattle.unit.specs.Model.{wall}
 use Rattle.unit.specs.Fresh.{freshUnit}
-use Rattle.unit.specs.Sizes.{lengthsOf, storeLen, workLen}
+use Rattle.unit.specs.Sizes.{lengths, storeLen, workLen}
 use Rattle.machine.specs.Ending.{Ending}
 use Rattle.shell.specs.Settings.{frame, rate, storeFloats, workFloats, calls}
 use Rattle.shell.specs.Frames.{inputEnds}
@@ -37,4 +37,4 @@ SeventySix = (xs : List Input) → let u = freshUnit wall rate frame in calls (l
 
 -- R9.2: the memory is what a unit of the program's frame takes
 abbrev pub Room : Type 0
-Room = (storeLen wall (lengthsOf wall frame) ≡ storeFloats) × (workLen wall frame ≡ workFloats)
+Room = (storeLen wall (lengths wall (freshUnit wall rate frame)) ≡ storeFloats) × (workLen wall frame ≡ workFloats)

@@ -4,7 +4,7 @@ use Rattle.unit.specs.Sizes.{lengthsFrom, total, storeLen, workLen, Stor
 
 pub store-is : StoreIs
 unfolding storeLen total lengthsFrom
-store-is f = omega arith
+store-is u = omega arith
 
 pub work-is : WorkIs
 unfolding workLen total

@@ -15,8 +15,9 @@ use Rattle.samples.proofs.Turns.{stored}
 use Rattle.delay.specs.declared.Cursors.{Cursors}
 use Rattle.delay.specs.Calls.{both}
 use Rattle.primes.proofs.Table.{delay-range}
+use Rattle.unit.specs.UnitState.{Settings, UnitState}
 use Rattle.unit.specs.Model.{Model, wall}
-use Rattle.unit.specs.Sizes.{lengthsFrom, lengthsOf, total}
+use Rattle.unit.specs.Sizes.{lengthsFrom, lengths, total}
 use Rattle.unit.specs.Range.{below, cursorsIn}
 use Rattle.unit.specs.Room.{ringsHold}
 
@@ -49,34 +50,36 @@ cursors-at ls cs all i h =
 -- ---- the lengths of the lines
 
 -- of n, those from line i on: one more is in its place
-pub lengths-turn : (m : Model) (f n i v : ℕ) (ls X : List ℕ) → i < n → i < length ls → v ≡ m .delay i + f
-    → take i ls ++ lengthsFrom m f (n - i) i ≡ X → take (i + 1) (set ls i v) ++ lengthsFrom m f (n - (i + 1)) (i + 1) ≡ X
+pub lengths-turn : (m : Model) (s : Settings) (n i v : ℕ) (ls X : List ℕ) → i < n → i < length ls → v ≡ m .delay i + s .frame
+    → take i ls ++ lengthsFrom m s (n - i) i ≡ X → take (i + 1) (set ls i v) ++ lengthsFrom m s (n - (i + 1)) (i + 1) ≡ X
 unfolding lengthsFrom
-lengths-turn m f n i v ls X h l e q =
+lengths-turn m s n i v ls X h l e q =
     let k : n - i ≡ suc (n - (i + 1)) = omega arith in
-    let left : lengthsFrom m f (n - i) i ≡ v ∷ lengthsFrom m f (n - (i + 1)) (i + 1) = rw (k, e) refl in
+    let left : lengthsFrom m s (n - i) i ≡ v ∷ lengthsFrom m s (n - (i + 1)) (i + 1) = rw (k, e) refl in
     stored ls i 0 l v left ∙ q
 
 -- the length of line i
-pub length-at : (m : Model) (f n j i : ℕ) → i < n → getD (lengthsFrom m f n j) i 0 ≡ m .delay (j + i) + f
+pub length-at : (m : Model) (s : Settings) (n j i : ℕ) → i < n → getD (lengthsFrom m s n j) i 0 ≡ m .delay (j + i) + s .frame
 unfolding lengthsFrom
-length-at m f zero j i h = absurd (not-suc-le-zero h)
-length-at m f (suc n) j zero h = rw add-zero refl
-length-at m f (suc n) j (suc i) h =
+length-at m s zero j i h = absurd (not-suc-le-zero h)
+length-at m s (suc n) j zero h = rw add-zero refl
+length-at m s (suc n) j (suc i) h =
     let e : j + suc i ≡ j + 1 + i = omega arith in
-    rw e (length-at m f n (j + 1) i (omega arith))
+    rw e (length-at m s n (j + 1) i (omega arith))
 
-pub lengths-long : (m : Model) (f n j : ℕ) → length (lengthsFrom m f n j) ≡ n
+pub lengths-long : (m : Model) (s : Settings) (n j : ℕ) → length (lengthsFrom m s n j) ≡ n
 unfolding lengthsFrom
-lengths-long m f zero j = refl
-lengths-long m f (suc n) j = ap suc (lengths-long m f n (j + 1))
+lengths-long m s zero j = refl
+lengths-long m s (suc n) j = ap suc (lengths-long m s n (j + 1))
 
 -- each holds a frame, and is short enough for a ring
-pub lengths-hold : (m : Model) (f n j k : ℕ) → ((i : ℕ) → m .delay i ≤ 64512) → f ≤ 1024 → allFrom (λ i l. leb f l && leb l 65536) k (lengthsFrom m f n j) ≡ true
+pub lengths-hold : (m : Model) (s : Settings) (n j k : ℕ) → ((i : ℕ) → m .delay i ≤ 64512) → s .frame ≤ 1024
+    → allFrom (λ i l. leb (s .frame) l && leb l 65536) k (lengthsFrom m s n j) ≡ true
 unfolding lengthsFrom
-lengths-hold m f zero j k near h = refl
-lengths-hold m f (suc n) j k near h =
-    join-and (join-and (le-leb f (m .delay j + f) (omega arith)) (le-leb (m .delay j + f) 65536 (omega (arith, near j)))) (lengths-hold m f n (j + 1) (suc k) near h)
+lengths-hold m s zero j k near h = refl
+lengths-hold m s (suc n) j k near h =
+    let l = m .delay j + s .frame in
+    join-and (join-and (le-leb (s .frame) l (omega arith)) (le-leb l 65536 (omega (arith, near j)))) (lengths-hold m s n (j + 1) (suc k) near h)
 
 -- a ring of those that hold a frame, and all of them
 pub holds-at : (f : ℕ) (ls : List ℕ) → ringsHold f ls ≡ true → (i : ℕ) → i < length ls → (f ≤ getD ls i 0) × (getD ls i 0 ≤ 65536)
@@ -98,19 +101,18 @@ unfolding ringsHold
 holds-all f ls e = rings-short f 0 ls e
 
 -- of the wall unit's lines
-pub wall-holds : (f : ℕ) → f ≤ 1024 → ringsHold f (lengthsOf wall f) ≡ true
+pub wall-holds : (u : UnitState) → u .settings .frame ≤ 1024 → ringsHold (u .settings .frame) (lengths wall u) ≡ true
 unfolding ringsHold
-wall-holds f h = lengths-hold wall f 16 0 0 (λ (i : ℕ). omega (arith, delay-range i)) h
+wall-holds u h = lengths-hold wall (u .settings) 16 0 0 (λ (i : ℕ). omega (arith, delay-range i)) h
 
 -- a test of the lengths that stands behind a test of the frame may take them for those of a frame in range
-pub in-range-lengths : (f : ℕ) (cs : List Cursors) (rate passes blank : Bool)
-    → ((rate && frameOk f) && ((cursorsIn (cond (frameOk f) (lengthsOf wall f) (replicate 16 0)) cs && passes) && blank))
-    ≡ ((rate && frameOk f) && ((cursorsIn (lengthsOf wall f) cs && passes) && blank))
-in-range-lengths f cs rate passes blank = go rate (frameOk f) refl
+pub in-range-lengths : (ls : List ℕ) (f : ℕ) (cs : List Cursors) (rate passes blank : Bool)
+    → ((rate && frameOk f) && ((cursorsIn (cond (frameOk f) ls (replicate 16 0)) cs && passes) && blank))
+    ≡ ((rate && frameOk f) && ((cursorsIn ls cs && passes) && blank))
+in-range-lengths ls f cs rate passes blank = go rate (frameOk f) refl
   where
     go : (a b : Bool) → frameOk f ≡ b
-        → ((a && b) && ((cursorsIn (cond b (lengthsOf wall f) (replicate 16 0)) cs && passes) && blank))
-        ≡ ((a && b) && ((cursorsIn (lengthsOf wall f) cs && passes) && blank))
+        → ((a && b) && ((cursorsIn (cond b ls (replicate 16 0)) cs && passes) && blank)) ≡ ((a && b) && ((cursorsIn ls cs && passes) && blank))
     go true true e = refl
     go true false e = refl
     go false b e = refl

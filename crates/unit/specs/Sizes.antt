@@ -3,20 +3,17 @@ use Prim.Native.Nat.{ℕ, zero, suc, _+_, _*_}
 use mathlib.Core.Path.{_≡_}
 use mathlib.Core.List.{List, [], _∷_}
 use lib.ListN.{length}
-use Rattle.unit.specs.UnitState.{UnitState}
+use Rattle.unit.specs.UnitState.{Settings, UnitState}
 use Rattle.unit.specs.Model.{Model, wall}
 
--- R1.10: the lengths of the rings of n lines more, from line i on
-unfoldable pub lengthsFrom : Model → ℕ → ℕ → ℕ → List ℕ
-lengthsFrom m f zero i = []
-lengthsFrom m f (suc n) i = (m .delay i + f) ∷ lengthsFrom m f n (i + 1)
+-- R1.10: the lengths of the rings of n lines more, from line i on, of a unit with the settings s
+unfoldable pub lengthsFrom : Model → Settings → ℕ → ℕ → List ℕ
+lengthsFrom m s zero i = []
+lengthsFrom m s (suc n) i = (m .delay i + s .frame) ∷ lengthsFrom m s n (i + 1)
 
-abbrev pub lengthsOf : Model → ℕ → List ℕ
-lengthsOf m f = lengthsFrom m f (m .lines) 0
-
--- those of a unit
+-- the lengths of all its lines
 abbrev pub lengths : Model → UnitState → List ℕ
-lengths m u = lengthsOf m (u .settings .frame)
+lengths m u = lengthsFrom m (u .settings) (m .lines) 0
 
 unfoldable pub total : List ℕ → ℕ
 total [] = 0
@@ -33,7 +30,7 @@ workLen m f = (m .lines + m .lines + 2) * f + total (m .passes)
 
 -- R1.19, R1.21: the wall unit's
 abbrev pub StoreIs : Type 0
-StoreIs = (f : ℕ) → storeLen wall (lengthsOf wall f) ≡ 7600 + 16 * f
+StoreIs = (u : UnitState) → storeLen wall (lengths wall u) ≡ 7600 + 16 * u .settings .frame
 
 abbrev pub WorkIs : Type 0
 WorkIs = (f : ℕ) → workLen wall f ≡ 1348 + 34 * f

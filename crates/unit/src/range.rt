@@ -28,7 +28,7 @@ pub fn in_range(s: State) -> bool
     and(
         and(rate_ok(rate), frame_ok(frame)),
         and(
-            and(cursors_in(lengths(frame), lines), passes_ok(passes)),
+            and(cursors_in(lengths(s), lines), passes_ok(passes)),
             open_or_blank(s),
         ),
     )

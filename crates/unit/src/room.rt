@@ -1,4 +1,5 @@
 // The memory and the rings that a frame asks.
+use crate::State;
 use crate::layout::LINES;
 use crate::layout::LONGEST_RING;
 use crate::range::cursors_in;
@@ -10,17 +11,19 @@ use delay::Cursors;
 use samples::and;
 use samples::frame_ok;
 ghost use mathlib.Core.Path.{_≡_};
+ghost use Rattle.unit.specs.UnitState.{ofState};
 ghost use Rattle.unit.specs.Model.{wall};
-ghost use Rattle.unit.specs.Sizes.{lengthsOf};
+ghost use Rattle.unit.specs.Sizes.{lengths};
 ghost use Rattle.unit.specs.Room.{ringsHold, lentFor, roomOk};
 
-// Whether the store, the work memory and the output have the lengths that a unit of frames of `frame`
-// samples asks (R1.19, R1.21, R1.25).
-pub fn lent_ok(frame: usize, store: usize, work: usize, output: usize) -> bool
-    ensures { λ r. ⌜ r ≡ lentFor wall frame (lengthsOf wall frame) store work output ⌝ }
+// Whether the store, the work memory and the output have the lengths that a unit asks (R1.19, R1.21,
+// R1.25).
+pub fn lent_ok(s: State, store: usize, work: usize, output: usize) -> bool
+    ensures { λ r. ⌜ r ≡ lentFor wall (s .frame) (lengths wall (ofState s)) store work output ⌝ }
 {
+    let frame = s.frame;
     and(
-        store_ok(frame, store),
+        store_ok(s, store),
         and(work_ok(frame, work), output == frame),
     )
 }

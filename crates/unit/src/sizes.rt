@@ -1,4 +1,5 @@
 // The sizes of the memory that the unit is lent, judged without a sum that may not fit.
+use crate::State;
 use crate::layout::DELAYS_AND_RINGS;
 use crate::layout::LINES;
 use crate::layout::RINGS;
@@ -10,36 +11,39 @@ ghost use Prim.Native.Nat.{_+_, _*_, _<_, _≤_};
 ghost use lib.Dec.{eqb};
 ghost use lib.ListN.{replicate};
 ghost use Rattle.samples.specs.Sizes.{frameOk};
+ghost use Rattle.unit.specs.UnitState.{ofState};
 ghost use Rattle.unit.specs.Model.{wall};
-ghost use Rattle.unit.specs.Sizes.{lengthsOf, storeLen, workLen};
+ghost use Rattle.unit.specs.Sizes.{lengths, storeLen, workLen};
 
-// The lengths of the lines' rings in a unit of frames of `frame` samples. There is no such unit where
-// `frame` is out of range, and no ring (R1.10).
-pub fn lengths(frame: usize) -> [usize; LINES]
-    ensures { λ r. ⌜ r ≡ cond (frameOk frame) (lengthsOf wall frame) (replicate (wall .lines) 0) ⌝ }
+// The lengths of the lines' rings of a unit (R1.10). Where its frame is out of range there is no such
+// unit, and no ring.
+pub fn lengths(s: State) -> [usize; LINES]
+    ensures { λ r. ⌜ r ≡ cond (frameOk (s .frame)) (lengths wall (ofState s)) (replicate (wall .lines) 0) ⌝ }
 {
+    let frame = s.frame;
     if !frame_ok(frame) {
         return [0; LINES];
     }
-    lengths_of(frame)
+    lengths_of(s)
 }
 
 // The same where it is in range.
-fn lengths_of(frame: usize) -> [usize; LINES]
-    requires { ⌜ frame ≤ 1024 ⌝ }
-    ensures { λ r. ⌜ r ≡ lengthsOf wall frame ⌝ }
+fn lengths_of(s: State) -> [usize; LINES]
+    requires { ⌜ s .frame ≤ 1024 ⌝ }
+    ensures { λ r. ⌜ r ≡ lengths wall (ofState s) ⌝ }
 {
     let mut ls = [0usize; LINES];
     for i in 0..LINES {
-        ls[i] = primes::delay(i) + frame;
+        ls[i] = primes::delay(i) + s.frame;
     }
     ls
 }
 
-// Whether a store has the length that a unit of frames of `frame` samples asks (R1.19).
-pub fn store_ok(frame: usize, store: usize) -> bool
-    ensures { λ r. ⌜ r ≡ eqb store (storeLen wall (lengthsOf wall frame)) ⌝ }
+// Whether a store has the length that a unit asks (R1.19).
+pub fn store_ok(s: State, store: usize) -> bool
+    ensures { λ r. ⌜ r ≡ eqb store (storeLen wall (lengths wall (ofState s))) ⌝ }
 {
+    let frame = s.frame;
     is_sum(store, DELAYS_AND_RINGS, LINES, frame)
 }
 

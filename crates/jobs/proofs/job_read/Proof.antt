@@ -16,7 +16,7 @@ use Rattle.unit.specs.UnitState.{UnitState, ofState}
 use Rattle.unit.specs.declared.State.{State}
 use Rattle.unit.specs.Model.{wall}
 use Rattle.unit.specs.Range.{cursorsIn}
-use Rattle.unit.specs.Sizes.{lengthsOf, lengths}
+use Rattle.unit.specs.Sizes.{lengths}
 use Rattle.unit.specs.Room.{ringsHold}
 use Rattle.unit.proofs.Ranges.{wall-holds}
 use Rattle.samples.specs.Sizes.{rateOk, frameOk}
@@ -96,9 +96,9 @@ module _ (p : lts.Else1 (judge-read-reads.Asked, judge-read-reads.Learnt, is-acc
   framed = split-and (rateOk (u .settings .rate)) (frameOk (u .settings .frame)) (due .sizes) .1
 
   hold : ringsHold (u .settings .frame) (lengths wall u) ≡ true
-  hold = wall-holds (u .settings .frame) (frame-of _ framed .hi)
+  hold = wall-holds u (frame-of _ framed .hi)
 
-  lengths-in : cond (frameOk (u .settings .frame)) (lengthsOf wall (u .settings .frame)) (replicate 16 0) ≡ lengths wall u
+  lengths-in : cond (frameOk (u .settings .frame)) (lengths wall u) (replicate 16 0) ≡ lengths wall u
   lengths-in = rw framed refl
 
   room : lineRoom wall (u .settings .frame) (lengths wall u) line store work ≡ true

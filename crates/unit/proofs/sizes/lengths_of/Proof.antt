@@ -6,6 +6,7 @@ use mathlib.Core.List.{_++_}
 use Prim.Native.Nat.{ℕ, _+_, _≤_, _-_}
 use lib.ListN.{length, take, length-set}
 use Rattle.samples.proofs.Turns.{all-done}
+use Rattle.unit.specs.UnitState.{ofState}
 use Rattle.unit.specs.Model.{wall}
 use Rattle.unit.specs.Sizes.{lengthsFrom}
 use Rattle.primes.proofs.Table.{delay-range}
@@ -14,27 +15,28 @@ use Rattle.unit.proofs.sizes.lengths_of.Statement.{statement}
 use Rattle.unit.proofs.sizes.lengths_of.Tie as tie
 
 abbrev Inv-loop : tie.InvT-loop
-Inv-loop frame ls₀ i₀ ls i = (i ≤ 16) × (length ls ≡ 16) × (take i ls ++ lengthsFrom wall frame (16 - i) i ≡ lengthsFrom wall frame 16 0)
+Inv-loop s ls₀ i₀ ls i =
+    (i ≤ 16) × (length ls ≡ 16) × (take i ls ++ lengthsFrom wall (ofState s .settings) (16 - i) i ≡ lengthsFrom wall (ofState s .settings) 16 0)
 
 abbrev μ-loop : tie.MeasureT-loop
-μ-loop frame ls₀ i₀ ls i = 16 - i
+μ-loop s ls₀ i₀ ls i = 16 - i
 
 loop-holds : tie.Need-loop-holds Inv-loop μ-loop
 loop-holds c = (search needs, search needs, refl)
 
 add-ls : tie.Need-add-ls Inv-loop μ-loop
 add-ls c =
-    let l = c .before .before .loop in
-    let s = c .before .before .before in
-    omega (arith, delay-range (l .i), c .delay .ensures, s .pre)
+    let l = c .before .before .before .loop in
+    let s = c .before .before .before .before in
+    omega (arith, delay-range (l .i), c .before .delay .ensures, s .pre)
 
 loop-again : tie.Need-loop-again Inv-loop μ-loop
 loop-again c =
-    let l = c .before .before .loop in
-    let f = c .before .before .before .args .frame in (
+    let l = c .before .before .before .loop in
+    let s = c .before .before .before .before .args .s in (
       omega arith,
       simp length-set (l .inv .1),
-      lengths-turn wall f 16 (l .i) _ (l .ls) _ (c .before .loop-test .taken) (omega arith) (ap (λ (d : ℕ). d + f) (c .delay .ensures)) (l .inv .2),
+      lengths-turn wall (ofState s .settings) 16 (l .i) _ (l .ls) _ (c .before .before .loop-test .taken) (omega arith) (ap (λ (d : ℕ). d + s .frame) (c .before .delay .ensures)) (l .inv .2),
     )
 
 returns : tie.Need-returns Inv-loop μ-loop
