@@ -8,6 +8,7 @@ use samples::Frames;
 use unit::FILTERS;
 use unit::LINES;
 use unit::Outcome;
+use unit::PASS_RINGS;
 use unit::State;
 use unit::fresh_state;
 use unit::quiet;
@@ -21,7 +22,7 @@ ghost use Rattle.closing.specs.Workers.{idle, concluded};
 pub(crate) fn idle(
     s: State,
     lines: [Cursors; LINES],
-    passes: [Cursors; 4],
+    passes: [Cursors; PASS_RINGS],
     count: Frames,
     filters: [Filter; FILTERS],
 ) -> State

@@ -18,8 +18,11 @@ use Rattle.delay.specs.Ring.{wrap, read, write, ahead, readEach, writeEa
 -- ---- what is judged
 
 -- R1.4: the length of a ring on its own
+abbrev pub longestRing : ℕ
+longestRing = 65536
+
 unfoldable pub lengthOk : ℕ → Bool
-lengthOk l = leb 1 l && leb l 65536
+lengthOk l = leb 1 l && leb l longestRing
 
 -- R3.14: both cursors are within the ring, whichever of them the call moves
 unfoldable pub cursorsOk : ℕ → Cursors → Bool

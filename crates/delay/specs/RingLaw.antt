@@ -11,7 +11,7 @@ use Rattle.samples.specs.declared.Answer.the-variants.{Accepted}
 use Rattle.delay.specs.declared.Cursors.{Cursors}
 use Rattle.delay.specs.declared.Four.{Four}
 use Rattle.delay.specs.Ring.{listOf}
-use Rattle.delay.specs.Calls.{freshAnswer, freshRing, resetAnswer, resetRing, getAnswer, getOut, putAnswer, putRing, get4Answer, put4Answer, put4Ring}
+use Rattle.delay.specs.Calls.{longestRing, freshAnswer, freshRing, resetAnswer, resetRing, getAnswer, getOut, putAnswer, putRing, get4Answer, put4Answer, put4Ring}
 
 -- ---- cursors
 
@@ -100,7 +100,7 @@ given ts = flatten (map (λ t. samples (t .put)) ts)
 -- from a fresh, or from a reset while the cursors are equal: P holds of L, all samples put and all samples got
 abbrev pub FromSilence : (ℕ → List Float → List Float → Type 0) → Type 0
 FromSilence P =
-    (ring : List Float) (ts : List Turn) → 1 ≤ length ring → length ring ≤ 65536 → Each (length ring) ts
+    (ring : List Float) (ts : List Turn) → 1 ≤ length ring → length ring ≤ longestRing → Each (length ring) ts
     → P (length ring) (given ts) (flatten (gets (freshRing ring) (freshAnswer (length ring) .cursors) ts))
     × ((c : Cursors) → Equal c → Below (length ring) c
     → P (length ring) (given ts) (flatten (gets (resetRing ring c) (resetAnswer (length ring) c .cursors) ts)))

@@ -40,7 +40,7 @@ pub struct FourAnswer {
 }
 
 // The longest ring, in samples.
-const LONGEST_RING: usize = 65536;
+pub const LONGEST_RING: usize = 65536;
 
 // A new ring: silent, with both cursors at its start (R3.17).
 pub fn fresh(ring: &mut [f32]) -> RingAnswer

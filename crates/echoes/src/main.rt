@@ -2,11 +2,33 @@
 // first echoes of a click fall (R9.27).
 use bands::Times;
 use libc::STDOUT_FILENO;
+use unit::BANDS;
+use unit::COEFFICIENTS;
+use unit::DELAYS_AND_RINGS;
+use unit::FILTERS;
+use unit::LINES;
+use unit::PER_FILTER;
+use unit::RINGS;
+use unit::ROWS;
 use unit::State;
+use unit::TONE;
+
+// The samples a second, and those of the click's frames.
+const RATE: u32 = 48000;
+
+const FRAME: usize = 128;
+
+// The memory of a unit of such frames.
+const STORE: usize = DELAYS_AND_RINGS + LINES * FRAME;
+
+const WORK: usize = ROWS * FRAME + RINGS;
+
+// Where b0 stands among the coefficients of a filter.
+const B0: usize = 2;
 
 // What a fresh unit answers for frames of that many samples, on a store of their length.
 fn size(frame: usize, store: &mut [f32]) {
-    let a = reverb::fresh(48000, frame, store);
+    let a = reverb::fresh(RATE, frame, store);
     let answer = a.answer;
     io::write_all(STDOUT_FILENO, b"a frame of ");
     io::print_decimal(STDOUT_FILENO, frame as u64);
@@ -16,10 +38,10 @@ fn size(frame: usize, store: &mut [f32]) {
 }
 
 // The program's filters: band 0 of each line halves, every other filter lets by.
-fn coefficients() -> [f32; 255] {
-    let mut cs = [0.0f32; 255];
-    for i in 0..51usize {
-        cs[5 * i + 2] = if i < 48 && i % 3 == 0 { 0.5 } else { 1.0 };
+fn coefficients() -> [f32; COEFFICIENTS] {
+    let mut cs = [0.0f32; COEFFICIENTS];
+    for i in 0..FILTERS {
+        cs[PER_FILTER * i + B0] = if i < TONE && i % BANDS == 0 { 0.5 } else { 1.0 };
     }
     cs
 }
@@ -34,8 +56,8 @@ fn say(at: u64, x: f32) {
 }
 
 // Writes the samples of a frame that are not exactly +0. The frame's first is sample `at`.
-fn show(row: &[f32; 128], at: u32) {
-    for i in 0..128usize {
+fn show(row: &[f32; FRAME], at: u32) {
+    for i in 0..FRAME {
         let x = row[i];
         if !samples::is_plus_zero(x) {
             say(at as u64 + i as u64, x);
@@ -50,7 +72,7 @@ fn first(s: State, store: &mut [f32], work: &mut [f32], output: &mut [f32]) -> S
         mid: 0.1,
         high: 0.1,
     };
-    let mut click = [0.0f32; 128];
+    let mut click = [0.0f32; FRAME];
     click[0] = 1.0;
     let a = reverb::apply(s, t, &coefficients(), &click, store, work, output);
     a.state
@@ -58,22 +80,22 @@ fn first(s: State, store: &mut [f32], work: &mut [f32], output: &mut [f32]) -> S
 
 // A click, and three frames after it.
 fn click(store: &mut [f32], work: &mut [f32]) {
-    let fresh = reverb::fresh(48000, 128, store);
-    let mut output = [0.0f32; 128];
+    let fresh = reverb::fresh(RATE, FRAME, store);
+    let mut output = [0.0f32; FRAME];
     let mut state = first(fresh.state, store, work, &mut output);
     show(&output, 0);
     for k in 1..4u32 {
         let a = reverb::tail(state, store, work, &mut output);
         state = a.state;
-        show(&output, 128 * k);
+        show(&output, FRAME as u32 * k);
     }
 }
 
 fn main() {
-    size(4, &mut [0.0f32; 7664]);
-    size(1024, &mut [0.0f32; 23984]);
-    size(0, &mut [0.0f32; 7600]);
-    size(6, &mut [0.0f32; 7696]);
-    size(1028, &mut [0.0f32; 24048]);
-    click(&mut [0.0f32; 9648], &mut [0.0f32; 5700]);
+    size(4, &mut [0.0f32; DELAYS_AND_RINGS + LINES * 4]);
+    size(1024, &mut [0.0f32; DELAYS_AND_RINGS + LINES * 1024]);
+    size(0, &mut [0.0f32; DELAYS_AND_RINGS]);
+    size(6, &mut [0.0f32; DELAYS_AND_RINGS + LINES * 6]);
+    size(1028, &mut [0.0f32; DELAYS_AND_RINGS + LINES * 1028]);
+    click(&mut [0.0f32; STORE], &mut [0.0f32; WORK]);
 }

@@ -5,11 +5,12 @@ use mathlib.Core.Bool.{Bool, _&&_, cond}
 use mathlib.Core.List.{List, _++_}
 use lib.Ieee.{Float}
 use lib.ListN.{length, getD, take, drop}
+use Rattle.samples.specs.Sizes.{longestFrame}
 use Rattle.search.specs.Search.{allFinite}
 use Rattle.delay.specs.declared.Cursors.{Cursors}
-use Rattle.delay.specs.Calls.{both}
+use Rattle.delay.specs.Calls.{longestRing, both}
 use Rattle.iir.specs.declared.Filter.{Filter}
-use Rattle.unit.specs.Model.{Model}
+use Rattle.unit.specs.Model.{Model, wall}
 use Rattle.unit.specs.Sizes.{total}
 use Rattle.stages.specs.Lines.{readRows}
 use Rattle.stages.specs.Frame.{Frame, lineRows, outputRow, newFilters}
@@ -25,14 +26,14 @@ framed input r = input ++ (r .reads ++ (r .lines .put ++ (r .output .out ++ r .o
 abbrev pub RingsFit : ℕ → ℕ → ℕ → ℕ → List ℕ → List Cursors → ℕ → Type 0
 RingsFit f zero i a ls cs len = Unit {0}
 RingsFit f (suc n) i a ls cs len =
-    (f ≤ getD ls i 0) × (getD ls i 0 ≤ 65536) × (getD cs i (both 0) .read .0 < getD ls i 0) × (getD cs i (both 0) .write .0 < getD ls i 0)
+    (f ≤ getD ls i 0) × (getD ls i 0 ≤ longestRing) × (getD cs i (both 0) .read .0 < getD ls i 0) × (getD cs i (both 0) .write .0 < getD ls i 0)
     × (a + getD ls i 0 ≤ len) × RingsFit f n (i + 1) (a + getD ls i 0) ls cs len
 
 -- what the workers over n lines ask: rows of n frames of f samples, and the rings
 pub record LinesFit (n f : ℕ) (ls : List ℕ) (cs : List Cursors) (store rows : ℕ) : Type 0 where
-  pub few : n ≤ 16
+  pub few : n ≤ wall .lines
   pub some : 0 < f
-  pub small : f ≤ 65536
+  pub small : f ≤ longestRing
   pub rows-are : rows ≡ n * f
   pub rings : RingsFit f n 0 0 ls cs store
 
@@ -40,19 +41,19 @@ pub record LinesFit (n f : ℕ) (ls : List ℕ) (cs : List Cursors) (store rows 
 abbrev pub Within : ℕ → ℕ → List ℕ → List Cursors → Type 0
 Within zero i ls cs = Unit {0}
 Within (suc n) i ls cs =
-    (getD ls i 0 ≤ 65536) × (getD cs i (both 0) .read .0 < getD ls i 0) × (getD cs i (both 0) .write .0 < getD ls i 0) × Within n (i + 1) ls cs
+    (getD ls i 0 ≤ longestRing) × (getD cs i (both 0) .read .0 < getD ls i 0) × (getD cs i (both 0) .write .0 < getD ls i 0) × Within n (i + 1) ls cs
 
 -- what a frame of n lines asks of the memory lent: the lines' rings and then the allpass rings in the store; the rows and then the
 -- allpass rings in the work memory
 pub record FrameFits (n f : ℕ) (ls : List ℕ) (cs : List Cursors) (ps : List ℕ) (store work : ℕ) : Type 0 where
-  pub few : n ≤ 16
+  pub few : n ≤ wall .lines
   pub some : 0 < n
   pub frame : 0 < f
-  pub small : f ≤ 65536
+  pub small : f ≤ longestRing
   pub fours : f % 4 ≡ 0
   pub rings : RingsFit f n 0 0 ls cs store
-  pub passes : total ps ≤ 65536
-  pub four : length ps ≡ 4
+  pub passes : total ps ≤ longestRing
+  pub four : length ps ≡ length (wall .passes)
   pub store-is : store ≡ total (take n ls) + total ps
   pub work-is : work ≡ f + n * f + n * f + f + total ps
 
@@ -77,7 +78,7 @@ pub record WholeFits (m : Model) (f : ℕ) (ls : List ℕ) (cs qs : List Cursors
   pub fits : FrameFits (m .lines) f ls cs (m .passes) store work
   pub lines : Within (m .lines) 0 ls cs
   pub passes : Within (length (m .passes)) 0 (m .passes) qs
-  pub short : f ≤ 1024
+  pub short : f ≤ longestFrame
   pub out : output ≡ f
 
 -- what settling a frame of n lines asks: the lines' rings, and as many floats after them as after the rows in the work memory

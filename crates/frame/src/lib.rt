@@ -16,11 +16,13 @@ use unit::DIVISOR;
 use unit::FACTOR;
 use unit::FILTERS;
 use unit::LINES;
+use unit::PASS_RINGS;
 use unit::PASSES;
 use unit::room_ok;
 ghost use mathlib.Core.Path.{_≡_};
 ghost use Prim.Native.Nat.{_≤_};
 ghost use lib.ListN.{length};
+ghost use Rattle.samples.specs.Sizes.{longestFrame};
 ghost use Rattle.unit.specs.Model.{wall};
 ghost use Rattle.stages.specs.Settle.{allMoved};
 ghost use Rattle.frame.specs.Workers.{Within, WholeFits};
@@ -31,7 +33,7 @@ ghost use Rattle.frame.specs.Steps.{ran, ranWithRoom, finished, finished
 pub struct Rings {
     pub lengths: [usize; LINES],
     pub lines: [Cursors; LINES],
-    pub passes: [Cursors; 4],
+    pub passes: [Cursors; PASS_RINGS],
 }
 
 // What a frame came to: whether all of it is finite, its filters, and the cursors of the rings after
@@ -40,7 +42,7 @@ pub struct Stepped {
     pub ok: bool,
     pub filters: [Filter; FILTERS],
     pub lines: [Cursors; LINES],
-    pub passes: [Cursors; 4],
+    pub passes: [Cursors; PASS_RINGS],
 }
 
 // A whole frame of the wall unit, through the filters `fs` and on its rings. The work memory begins with
@@ -110,7 +112,7 @@ fn wall_frame(
 
 // What a frame came to, its filters `fs`, with the cursors moved on.
 fn moved_on(ok: bool, f: usize, rings: Rings, fs: [Filter; FILTERS]) -> Stepped
-    requires { ⌜ (f ≤ 1024) × Within (wall .lines) 0 (rings .lengths) (rings .lines) × Within (length (wall .passes)) 0 (wall .passes) (rings .passes) ⌝ }
+    requires { ⌜ (f ≤ longestFrame) × Within (wall .lines) 0 (rings .lengths) (rings .lines) × Within (length (wall .passes)) 0 (wall .passes) (rings .passes) ⌝ }
     ensures { λ r. ⌜ r ≡ record { ok = ok; filters = fs; lines = allMoved f (rings .lengths) (rings .lines); passes = allMoved f (wall .passes) (rings .passes) } ⌝ }
 {
     let ls = rings.lengths;

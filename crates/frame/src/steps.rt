@@ -5,10 +5,12 @@
 use delay::Cursors;
 use samples::Samples;
 use unit::LINES;
+use unit::PASS_RINGS;
 ghost use mathlib.Core.Path.{_≡_};
 ghost use mathlib.Core.List.{_++_};
 ghost use Prim.Native.Nat.{_+_, _-_, _<_, _≤_};
 ghost use lib.ListN.{length, take, drop};
+ghost use Rattle.delay.specs.Calls.{longestRing};
 ghost use Rattle.unit.specs.Model.{wall};
 ghost use Rattle.unit.specs.Sizes.{total};
 ghost use Rattle.stages.specs.Lines.{readRows};
@@ -97,7 +99,7 @@ pub(crate) fn move_lines(
     ls: [usize; LINES],
     cs: [Cursors; LINES],
 ) -> [Cursors; LINES]
-    requires { ⌜ (n ≤ wall .lines) × (f ≤ 65536) × Within n 0 ls cs ⌝ }
+    requires { ⌜ (n ≤ wall .lines) × (f ≤ longestRing) × Within n 0 ls cs ⌝ }
     ensures { λ r. ⌜ r ≡ allMoved f (take n ls) cs ⌝ }
 {
     let mut ds = cs;
@@ -109,12 +111,16 @@ pub(crate) fn move_lines(
 }
 
 // The cursors of the allpass rings after a frame.
-pub(crate) fn move_passes(f: usize, ls: [usize; 4], cs: [Cursors; 4]) -> [Cursors; 4]
-    requires { ⌜ (f ≤ 65536) × Within 4 0 ls cs ⌝ }
+pub(crate) fn move_passes(
+    f: usize,
+    ls: [usize; PASS_RINGS],
+    cs: [Cursors; PASS_RINGS],
+) -> [Cursors; PASS_RINGS]
+    requires { ⌜ (f ≤ longestRing) × Within (length (wall .passes)) 0 ls cs ⌝ }
     ensures { λ r. ⌜ r ≡ allMoved f ls cs ⌝ }
 {
     let mut ds = cs;
-    for i in 0..4usize {
+    for i in 0..PASS_RINGS {
         let c = cs[i];
         ds[i] = moved(f, ls[i], c);
     }
@@ -123,7 +129,7 @@ pub(crate) fn move_passes(f: usize, ls: [usize; 4], cs: [Cursors; 4]) -> [Cursor
 
 // The cursors of a ring of length l, f samples on.
 fn moved(f: usize, l: usize, c: Cursors) -> Cursors
-    requires { ⌜ (f ≤ 65536) × (l ≤ 65536) × (c .read .0 < l) × (c .write .0 < l) ⌝ }
+    requires { ⌜ (f ≤ longestRing) × (l ≤ longestRing) × (c .read .0 < l) × (c .write .0 < l) ⌝ }
     ensures { λ r. ⌜ r ≡ movedBy f l c ⌝ }
 {
     let read = c.read.0;

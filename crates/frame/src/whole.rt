@@ -12,6 +12,7 @@ use samples::clear;
 use search::all_finite;
 use unit::FILTERS;
 use unit::LINES;
+use unit::PASS_RINGS;
 ghost use mathlib.Core.Path.{_≡_};
 ghost use mathlib.Core.Bool.{cond};
 ghost use mathlib.Core.List.{_++_};
@@ -62,7 +63,7 @@ pub(crate) fn frame_rows(
     divisor: f32,
     tail: bool,
     rings: Rings,
-    ps: [usize; 4],
+    ps: [usize; PASS_RINGS],
     fs: [Filter; FILTERS],
     store: &[f32],
     work: &mut [f32],
@@ -167,7 +168,7 @@ pub(crate) fn judge_frame(
     divisor: f32,
     tail: bool,
     rings: Rings,
-    ps: [usize; 4],
+    ps: [usize; PASS_RINGS],
     fs: [Filter; FILTERS],
     store: &mut [f32],
     work: &mut [f32],

@@ -9,8 +9,32 @@ use jobs::job_read;
 use libc::STDOUT_FILENO;
 use samples::and;
 use samples::number;
+use unit::COEFFICIENTS;
+use unit::DELAYS_AND_RINGS;
+use unit::FILTERS;
+use unit::JOBS;
+use unit::LINE_MARK;
+use unit::LINES;
+use unit::MIX_MARK;
+use unit::OUTPUT_MARK;
 use unit::Outcome;
+use unit::PER_FILTER;
+use unit::RINGS;
+use unit::ROWS;
 use unit::State;
+
+// The samples a second, and those of a frame.
+const RATE: u32 = 48000;
+
+const FRAME: usize = 128;
+
+// The memory of a unit of such frames.
+const STORE: usize = DELAYS_AND_RINGS + LINES * FRAME;
+
+const WORK: usize = ROWS * FRAME + RINGS;
+
+// Where b0 stands among the coefficients of a filter.
+const B0: usize = 2;
 
 // A unit on the way, and whether each request so far was answered as it should be.
 struct Going {
@@ -19,22 +43,22 @@ struct Going {
 }
 
 // Filters that ring: a part of what went out comes back, each a bit more than the one before.
-fn coefficients() -> [f32; 255] {
-    let mut cs = [0.0f32; 255];
+fn coefficients() -> [f32; COEFFICIENTS] {
+    let mut cs = [0.0f32; COEFFICIENTS];
     let mut gain = 0.25f32;
-    for i in 0..51usize {
-        cs[5 * i] = 0.125;
-        cs[5 * i + 2] = gain;
+    for i in 0..FILTERS {
+        cs[PER_FILTER * i] = 0.125;
+        cs[PER_FILTER * i + B0] = gain;
         gain = gain + 0.0078125;
     }
     cs
 }
 
 // An input whose samples all differ.
-fn ramp(start: f32) -> [f32; 128] {
-    let mut row = [0.0f32; 128];
+fn ramp(start: f32) -> [f32; FRAME] {
+    let mut row = [0.0f32; FRAME];
     let mut x = start;
-    for i in 0..128usize {
+    for i in 0..FRAME {
         row[i] = x;
         x = 0.03125 - x * 0.9375;
     }
@@ -52,9 +76,9 @@ fn times() -> Times {
 
 // A unit that has sounded for five frames, so that all of its rings hold something.
 fn begin(store: &mut [f32], work: &mut [f32]) -> State {
-    let fresh = reverb::fresh(48000, 128, store);
+    let fresh = reverb::fresh(RATE, FRAME, store);
     let mut state = fresh.state;
-    let mut output = [0.0f32; 128];
+    let mut output = [0.0f32; FRAME];
     let cs = coefficients();
     let input = ramp(1.0);
     for _ in 0..5u32 {
@@ -77,50 +101,50 @@ fn turn(order: u32, n: usize) -> usize {
 
 // Reads, the mix, the lines, the output.
 fn in_order(n: usize) -> usize {
-    n % 34
+    n % JOBS
 }
 
 // The lines from the last to the first, and the output before the mix.
 fn backwards(n: usize) -> usize {
-    if n < 16 {
-        return 15 - n;
+    if n < LINES {
+        return LINES - 1 - n;
     }
-    if n == 16 {
-        return 33;
+    if n == LINES {
+        return OUTPUT_MARK;
     }
-    if n == 17 {
-        return 16;
+    if n == LINES + 1 {
+        return MIX_MARK;
     }
-    17 + (33 - n % 34) % 16
+    LINE_MARK + (OUTPUT_MARK - n % JOBS) % LINES
 }
 
 // The lines by steps of seven and of five, and the output among them.
 fn across(n: usize) -> usize {
-    if n < 16 {
-        return (n * 7 + 3) % 16;
+    if n < LINES {
+        return (n * 7 + 3) % LINES;
     }
-    if n == 16 {
-        return 16;
+    if n == LINES {
+        return MIX_MARK;
     }
     if n == 25 {
-        return 33;
+        return OUTPUT_MARK;
     }
     if n < 25 {
-        return 17 + ((n - 17) * 5) % 16;
+        return LINE_MARK + ((n - LINE_MARK) * 5) % LINES;
     }
-    17 + ((n % 34 + 14) * 5) % 16
+    LINE_MARK + ((n % JOBS + 14) * 5) % LINES
 }
 
 // The job of mark k.
 fn job(s: State, k: usize, store: &[f32], work: &mut [f32]) -> Outcome {
-    if k < 16 {
+    if k < LINES {
         return job_read(s, k, store, work);
     }
-    if k == 16 {
+    if k == MIX_MARK {
         return job_mix(s, work);
     }
-    if k < 33 {
-        return job_line(s, k - 17, work);
+    if k < OUTPUT_MARK {
+        return job_line(s, k - LINE_MARK, work);
     }
     job_output(s, work)
 }
@@ -136,9 +160,9 @@ fn answered(going: bool, a: Outcome, n: u32) -> Going {
 // A line that the unit hasn't: a read, and then a line's job.
 fn no_such_line(g: Going, store: &[f32], work: &mut [f32]) -> Going {
     let s = g.state;
-    let a = answered(g.ok, job_read(s, 16, store, work), 4);
+    let a = answered(g.ok, job_read(s, LINES, store, work), 4);
     let t = a.state;
-    answered(a.ok, job_line(t, 16, work), 4)
+    answered(a.ok, job_line(t, LINES, work), 4)
 }
 
 // Whole calls while a frame is open.
@@ -207,8 +231,8 @@ fn same_filter(f: Filter, g: Filter) -> bool {
 }
 
 // Whether all filters of two units are.
-fn same_filters(fs: [Filter; 51], gs: [Filter; 51]) -> bool {
-    for i in 0..51usize {
+fn same_filters(fs: [Filter; FILTERS], gs: [Filter; FILTERS]) -> bool {
+    for i in 0..FILTERS {
         let f = fs[i];
         let g = gs[i];
         if !same_filter(f, g) {
@@ -244,9 +268,9 @@ fn say(order: u32, ok: bool, equal: bool) {
 
 // The frame as jobs in an order, beside what the whole call left.
 fn compare(order: u32, whole: State, store: &[f32], output: &[f32]) {
-    let mut st = [0.0f32; 9648];
-    let mut work = [0.5f32; 5700];
-    let mut out = [0.0f32; 128];
+    let mut st = [0.0f32; STORE];
+    let mut work = [0.5f32; WORK];
+    let mut out = [0.0f32; FRAME];
     let s = begin(&mut st, &mut work);
     let input = ramp(0.5);
     let cs = coefficients();
@@ -264,9 +288,9 @@ fn compare(order: u32, whole: State, store: &[f32], output: &[f32]) {
 }
 
 fn main() {
-    let mut store = [0.0f32; 9648];
-    let mut work = [0.5f32; 5700];
-    let mut output = [0.0f32; 128];
+    let mut store = [0.0f32; STORE];
+    let mut work = [0.5f32; WORK];
+    let mut output = [0.0f32; FRAME];
     let s = begin(&mut store, &mut work);
     let input = ramp(0.5);
     let cs = coefficients();

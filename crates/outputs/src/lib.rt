@@ -13,6 +13,7 @@ use rows::work_for;
 use unit::DIVISOR;
 use unit::FILTERS;
 use unit::LINES;
+use unit::PASS_RINGS;
 use unit::PASSES;
 ghost use mathlib.Core.Path.{_≡_};
 ghost use mathlib.Core.Bool.{true};
@@ -29,8 +30,8 @@ pub fn output_row(
     n: usize,
     f: usize,
     divisor: f32,
-    ps: [usize; 4],
-    qs: [Cursors; 4],
+    ps: [usize; PASS_RINGS],
+    qs: [Cursors; PASS_RINGS],
     fs: [Filter; FILTERS],
     rows: &mut [f32],
 ) -> [Filter; FILTERS]
@@ -47,7 +48,7 @@ pub fn output_row(
 // the filters after it. On memory that isn't one of such frames nothing is done (R5.14).
 pub fn make_output(
     f: usize,
-    qs: [Cursors; 4],
+    qs: [Cursors; PASS_RINGS],
     fs: [Filter; FILTERS],
     work: &mut [f32],
 ) -> [Filter; FILTERS]
@@ -63,7 +64,7 @@ pub fn make_output(
 // The same on memory that is.
 fn wall_output(
     f: usize,
-    qs: [Cursors; 4],
+    qs: [Cursors; PASS_RINGS],
     fs: [Filter; FILTERS],
     work: &mut [f32],
 ) -> [Filter; FILTERS]

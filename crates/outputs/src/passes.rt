@@ -5,19 +5,26 @@ use iir::Filter;
 use rows::three_at;
 use unit::BANDS;
 use unit::FILTERS;
+use unit::PASS_RINGS;
 ghost use mathlib.Core.Path.{_≡_};
 ghost use mathlib.Core.List.{_++_};
 ghost use Prim.Native.Nat.{_+_, _*_, _%_, _≤_};
 ghost use lib.ListN.{length, take, drop};
 ghost use Rattle.samples.specs.Lists.{over};
+ghost use Rattle.delay.specs.Calls.{longestRing};
 ghost use Rattle.unit.specs.Model.{wall};
 ghost use Rattle.unit.specs.Sizes.{total};
 ghost use Rattle.outputs.specs.Steps.{outputFrom};
 ghost use Rattle.outputs.specs.Workers.{bothPassed};
 
 // Both allpass stages over a row, after which their four rings lie.
-pub(crate) fn pass_both(f: usize, ps: [usize; 4], qs: [Cursors; 4], rows: &mut [f32])
-    requires { ⌜ (f ≤ 65536) × (f % 4 ≡ 0) × (length (now rows) ≡ f + total ps) ⌝ }
+pub(crate) fn pass_both(
+    f: usize,
+    ps: [usize; PASS_RINGS],
+    qs: [Cursors; PASS_RINGS],
+    rows: &mut [f32],
+)
+    requires { ⌜ (f ≤ longestRing) × (f % 4 ≡ 0) × (length (now rows) ≡ f + total ps) ⌝ }
     ensures { λ _. ⌜ now (rows .exit) ≡ bothPassed f ps qs (drop f (now (rows .entry))) (take f (now (rows .entry))) ⌝ }
 {
     let lx = ps[0];
@@ -39,12 +46,12 @@ pub(crate) fn output_in(
     n: usize,
     f: usize,
     divisor: f32,
-    ps: [usize; 4],
-    qs: [Cursors; 4],
+    ps: [usize; PASS_RINGS],
+    qs: [Cursors; PASS_RINGS],
     fs: [Filter; FILTERS],
     rows: &mut [f32],
 ) -> [Filter; FILTERS]
-    requires { ⌜ (n ≤ wall .lines) × (f ≤ 65536) × (f % 4 ≡ 0) × (length (now rows) ≡ n * f + n * f + f + total ps) ⌝ }
+    requires { ⌜ (n ≤ wall .lines) × (f ≤ longestRing) × (f % 4 ≡ 0) × (length (now rows) ≡ n * f + n * f + f + total ps) ⌝ }
     ensures { λ r. ⌜ r ≡ over (3 * n) (outputFrom n f divisor ps qs fs (now (rows .entry)) .filters) fs ⌝ }
     ensures { λ _. ⌜ now (rows .exit) ≡ take (n * f + n * f) (now (rows .entry)) ++ (outputFrom n f divisor ps qs fs (now (rows .entry)) .out ++ outputFrom n f divisor ps qs fs (now (rows .entry)) .rings) ⌝ }
 {

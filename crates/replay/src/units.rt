@@ -10,7 +10,12 @@ use crate::tape::same_row;
 use audio_buffer::AudioEffectState;
 use bands::Times;
 use samples::Frames;
+use unit::COEFFICIENTS;
+use unit::DELAYS_AND_RINGS;
+use unit::LINES;
 use unit::Outcome;
+use unit::RINGS;
+use unit::ROWS;
 use unit::State;
 
 // A unit on its way, and where the replay is.
@@ -25,8 +30,8 @@ pub(crate) fn unit(t: Tape, bytes: &mut [u8]) -> Tape {
         return live(
             t,
             &mut [0.0f32; 4],
-            &mut [0.0f32; 7664],
-            &mut [0.5f32; 1484],
+            &mut [0.0f32; DELAYS_AND_RINGS + LINES * 4],
+            &mut [0.5f32; ROWS * 4 + RINGS],
             &mut [0.5f32; 4],
             bytes,
         );
@@ -35,8 +40,8 @@ pub(crate) fn unit(t: Tape, bytes: &mut [u8]) -> Tape {
         return live(
             t,
             &mut [0.0f32; 12],
-            &mut [0.0f32; 7792],
-            &mut [0.5f32; 1756],
+            &mut [0.0f32; DELAYS_AND_RINGS + LINES * 12],
+            &mut [0.5f32; ROWS * 12 + RINGS],
             &mut [0.5f32; 12],
             bytes,
         );
@@ -45,8 +50,8 @@ pub(crate) fn unit(t: Tape, bytes: &mut [u8]) -> Tape {
         return live(
             t,
             &mut [0.0f32; 128],
-            &mut [0.0f32; 9648],
-            &mut [0.5f32; 5700],
+            &mut [0.0f32; DELAYS_AND_RINGS + LINES * 128],
+            &mut [0.5f32; ROWS * 128 + RINGS],
             &mut [0.5f32; 128],
             bytes,
         );
@@ -54,8 +59,8 @@ pub(crate) fn unit(t: Tape, bytes: &mut [u8]) -> Tape {
     live(
         t,
         &mut [0.0f32; 1024],
-        &mut [0.0f32; 23984],
-        &mut [0.5f32; 36164],
+        &mut [0.0f32; DELAYS_AND_RINGS + LINES * 1024],
+        &mut [0.5f32; ROWS * 1024 + RINGS],
         &mut [0.5f32; 1024],
         bytes,
     )
@@ -93,7 +98,7 @@ fn play(
     output: &mut [f32],
     bytes: &mut [u8],
 ) -> Tape {
-    let mut cs = [0.0f32; 255];
+    let mut cs = [0.0f32; COEFFICIENTS];
     let mut going = g;
     let mut turns = u64::MAX;
     while turns > 0 {

@@ -4,12 +4,13 @@ use mathlib.Core.Bool.{Bool, _&&_}
 use mathlib.Core.List.{List}
 use lib.Dec.{leb, eqb}
 use Rattle.samples.specs.Sizes.{frameOk}
-use Rattle.unit.specs.Model.{Model}
+use Rattle.delay.specs.Calls.{longestRing}
+use Rattle.unit.specs.Model.{Model, wall}
 use Rattle.unit.specs.Sizes.{total, workLen}
 
--- from 1 to 16 lines, and rows of up to 65,536 samples
+-- from one line to all of the wall unit's, and rows no longer than a ring may be
 unfoldable pub fewRows : ℕ → ℕ → Bool
-fewRows n f = leb 1 n && (leb n 16 && leb f 65536)
+fewRows n f = leb 1 n && (leb n (wall .lines) && leb f longestRing)
 
 -- `len` floats are the input, n rows read and n mixed
 unfoldable pub linesFit : ℕ → ℕ → ℕ → Bool

@@ -2,6 +2,7 @@
 use Prim.Native.Nat.{ℕ, _+_, _*_, _%_, _<_, _≤_}
 use mathlib.Core.Path.{_≡_}
 use mathlib.Core.List.{List, [], _∷_, _++_}
+use Rattle.samples.specs.Sizes.{longestFrame}
 use Rattle.iir.specs.declared.Filter.{Filter}
 use Rattle.iir.specs.declared.Bands.{Bands}
 use Rattle.unit.specs.Model.{Model}
@@ -11,7 +12,7 @@ use Rattle.stages.specs.Lines.{three, threeOf}
 -- a work memory is one of frames of f samples
 pub record WorkFits (m : Model) (f work : ℕ) : Type 0 where
   pub some : 0 < f
-  pub short : f ≤ 1024
+  pub short : f ≤ longestFrame
   pub fours : f % 4 ≡ 0
   pub work-is : work ≡ f + m .lines * f + m .lines * f + f + total (m .passes)
 

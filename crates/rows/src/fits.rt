@@ -1,8 +1,9 @@
 // Whether the memory lent is what the steps ask, judged without a sum that may not fit.
+use delay::LONGEST_RING;
 use samples::and;
 use samples::frame_ok;
 use unit::LINES;
-use unit::LONGEST_RING;
+use unit::PASS_RINGS;
 use unit::work_ok;
 ghost use mathlib.Core.Path.{_≡_};
 ghost use lib.Dec.{eqb};
@@ -10,7 +11,7 @@ ghost use Rattle.unit.specs.Model.{wall};
 ghost use Rattle.unit.specs.Sizes.{total};
 ghost use Rattle.rows.specs.Fits.{fewRows, linesFit, outputFits, workFor};
 
-// From 1 to 16 lines, and rows of up to 65,536 samples.
+// From one line to all of the wall unit's, and rows no longer than a ring may be.
 pub(crate) fn few_rows(n: usize, f: usize) -> bool
     ensures { λ r. ⌜ r ≡ fewRows n f ⌝ }
 {
@@ -28,7 +29,7 @@ pub(crate) fn lines_fit(n: usize, f: usize, len: usize) -> bool
 }
 
 // Whole rows read, mixed and of the output, and the allpass rings (R3.37).
-pub fn output_fits(n: usize, f: usize, ps: [usize; 4], len: usize) -> bool
+pub fn output_fits(n: usize, f: usize, ps: [usize; PASS_RINGS], len: usize) -> bool
     ensures { λ r. ⌜ r ≡ outputFits n f ps len ⌝ }
 {
     if !few_rows(n, f) {
@@ -42,11 +43,11 @@ pub fn output_fits(n: usize, f: usize, ps: [usize; 4], len: usize) -> bool
 }
 
 // Whether the lengths of the rings add up to `len`.
-fn sum_to(ps: [usize; 4], len: usize) -> bool
+fn sum_to(ps: [usize; PASS_RINGS], len: usize) -> bool
     ensures { λ r. ⌜ r ≡ eqb len (total ps) ⌝ }
 {
     let mut rest = len;
-    for i in 0..4usize {
+    for i in 0..PASS_RINGS {
         if rest < ps[i] {
             return false;
         }

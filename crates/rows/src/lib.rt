@@ -28,6 +28,7 @@ ghost use mathlib.Core.List.{_++_};
 ghost use Prim.Native.Nat.{_+_, _*_, _<_, _≤_};
 ghost use lib.Dec.{ltb};
 ghost use lib.ListN.{length, take, drop};
+ghost use Rattle.delay.specs.Calls.{longestRing};
 ghost use Rattle.unit.specs.Model.{wall};
 ghost use Rattle.rows.specs.Fits.{workFor};
 ghost use Rattle.rows.specs.Workers.{WorkFits};
@@ -62,7 +63,7 @@ fn lines_in(
     fs: [Filter; FILTERS],
     rows: &mut [f32],
 ) -> [Filter; FILTERS]
-    requires { ⌜ (0 < n) × (n ≤ wall .lines) × (f ≤ 65536) × (length (now rows) ≡ f + n * f + n * f) ⌝ }
+    requires { ⌜ (0 < n) × (n ≤ wall .lines) × (f ≤ longestRing) × (length (now rows) ≡ f + n * f + n * f) ⌝ }
     ensures { λ r. ⌜ r ≡ linesIn n f factor tail fs (now (rows .entry)) .filters ++ drop (3 * n) fs ⌝ }
     ensures { λ _. ⌜ now (rows .exit) ≡ take f (now (rows .entry)) ++ (take (n * f) (drop f (now (rows .entry))) ++ linesIn n f factor tail fs (now (rows .entry)) .put) ⌝ }
 {

@@ -1,6 +1,6 @@
 -- One frame of the program: from the bytes read to the bytes written (R9.4 to R9.9).
 use mathlib.Core.List.{List}
-use Prim.Native.Nat.{ℕ}
+use Prim.Native.Nat.{ℕ, _*_}
 use lib.Ieee.{Float}
 use lib.ListN.{replicate}
 use Rattle.samples.specs.declared.Answer.{Answer}
@@ -38,6 +38,6 @@ inputEnds u bytes store work = playEnds u (inputPlay bytes) store work
 abbrev pub tailEnds : UnitState → List Float → List Float → Ending
 tailEnds u store work = playEnds u tail store work
 
--- R9.8, R9.9: the bytes written, of a refused frame 512 times 0
+-- "writes each frame"; "A refused frame is written as 128 zeros": four bytes each, all 0
 unfoldable pub said : Ending → List ℕ
-said e = accept (e .answer) (encoded (e .output)) (replicate 512 0)
+said e = accept (e .answer) (encoded (e .output)) (replicate (4 * frame) 0)

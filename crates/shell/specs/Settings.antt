@@ -1,10 +1,11 @@
 -- What the program is set to (R9.1 to R9.3).
 use mathlib.Core.List.{List, [], _∷_, _++_}
-use Prim.Native.Nat.{ℕ, zero, suc}
+use Prim.Native.Nat.{ℕ, zero, suc, _+_, _*_}
 use lib.IntN.{ℤ, pos, negsuc}
 use lib.Ieee.{Float, binary32, ofBits}
 use Rattle.samples.specs.Binary32.{+0}
 use Rattle.bands.specs.declared.Times.{Times}
+use Rattle.unit.specs.Model.{wall}
 
 -- R9.1: F and the rate
 abbrev pub frame : ℕ
@@ -15,10 +16,10 @@ rate = 48000
 
 -- R9.2: the floats of store and work memory
 abbrev pub storeFloats : ℕ
-storeFloats = 9648
+storeFloats = 7600 + 16 * frame
 
 abbrev pub workFloats : ℕ
-workFloats = 5700
+workFloats = 34 * frame + 1348
 
 -- R9.1: the times. 0x3dcc_cccd is the float nearest to 0.1
 abbrev pub times : Times
@@ -42,7 +43,7 @@ lineGains (suc n) = halves ++ (lets-by ++ (lets-by ++ lineGains n))
 
 -- R9.3, R1.15: all filters, the tone's last
 unfoldable pub coefficients : List Float
-coefficients = lineGains 16 ++ (lets-by ++ (lets-by ++ lets-by))
+coefficients = lineGains (wall .lines) ++ (lets-by ++ (lets-by ++ lets-by))
 
 -- R9.11: how many tail calls a count asks for, none where it is below 0
 abbrev pub calls : ℤ → ℕ

@@ -4,6 +4,8 @@
 // the settings.
 mod settings;
 
+pub use settings::BYTES;
+pub use settings::FRAME;
 pub use settings::STORE;
 pub use settings::WORK;
 pub use settings::coefficients;
@@ -23,16 +25,16 @@ pub fn input_frame(
     bytes: &[u8],
     store: &mut [f32; STORE],
     work: &mut [f32; WORK],
-    out: &mut [u8; 512],
+    out: &mut [u8; BYTES],
 ) -> Outcome
     ensures { λ r. ⌜ r ≡ given (inputEnds (ofState s) (now (bytes .entry)) (now (store .entry)) (now (work .entry))) ⌝ }
     ensures { λ _. ⌜ now (store .exit) ≡ inputEnds (ofState s) (now (bytes .entry)) (now (store .entry)) (now (work .entry)) .memory .store ⌝ }
     ensures { λ _. ⌜ now (work .exit) ≡ inputEnds (ofState s) (now (bytes .entry)) (now (store .entry)) (now (work .entry)) .memory .work ⌝ }
     ensures { λ _. ⌜ now (out .exit) ≡ said (inputEnds (ofState s) (now (bytes .entry)) (now (store .entry)) (now (work .entry))) ⌝ }
 {
-    let mut input = [0.0f32; 128];
+    let mut input = [0.0f32; FRAME];
     wire::decode(bytes, &mut input);
-    let mut output = [0.0f32; 128];
+    let mut output = [0.0f32; FRAME];
     let a = reverb::apply(
         s,
         times(),
@@ -51,14 +53,14 @@ pub fn tail_frame(
     s: State,
     store: &mut [f32; STORE],
     work: &mut [f32; WORK],
-    out: &mut [u8; 512],
+    out: &mut [u8; BYTES],
 ) -> Outcome
     ensures { λ r. ⌜ r ≡ given (tailEnds (ofState s) (now (store .entry)) (now (work .entry))) ⌝ }
     ensures { λ _. ⌜ now (store .exit) ≡ tailEnds (ofState s) (now (store .entry)) (now (work .entry)) .memory .store ⌝ }
     ensures { λ _. ⌜ now (work .exit) ≡ tailEnds (ofState s) (now (store .entry)) (now (work .entry)) .memory .work ⌝ }
     ensures { λ _. ⌜ now (out .exit) ≡ said (tailEnds (ofState s) (now (store .entry)) (now (work .entry))) ⌝ }
 {
-    let mut row = [0.0f32; 128];
+    let mut row = [0.0f32; FRAME];
     let a = reverb::tail(s, store, work, &mut row);
     wire::encode(&row, out);
     a

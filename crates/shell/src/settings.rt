@@ -3,10 +3,19 @@
 use bands::Times;
 use samples::Frames;
 use samples::and;
+use unit::BANDS;
+use unit::COEFFICIENTS;
+use unit::DELAYS_AND_RINGS;
+use unit::FILTERS;
+use unit::LINES;
 use unit::Outcome;
+use unit::PER_FILTER;
+use unit::RINGS;
+use unit::ROWS;
+use unit::TONE;
 ghost use mathlib.Core.Path.{_≡_};
 ghost use mathlib.Core.Bool.{cond, _&&_};
-ghost use Prim.Native.Nat.{_%_};
+ghost use Prim.Native.Nat.{_*_, _%_};
 ghost use lib.Dec.{ltb, eqb};
 ghost use lib.Ieee.{binary32, ofBits};
 ghost use lib.ListN.{replicate};
@@ -18,11 +27,23 @@ ghost use Rattle.unit.specs.Outcome.{outcome};
 ghost use Rattle.audio_buffer.specs.declared.AudioEffectState.the-variants.{TailComplete};
 ghost use Rattle.shell.specs.Settings.{frame, rate, storeFloats, times, coefficients, calls};
 
+// The program's samples a second.
+const RATE: u32 = 48000;
+
+// The samples of its frames.
+pub const FRAME: usize = 128;
+
+// The bytes of a frame, four a sample.
+pub const BYTES: usize = 4 * FRAME;
+
 // How many floats of store the program's unit is lent.
-pub const STORE: usize = 9648;
+pub const STORE: usize = DELAYS_AND_RINGS + LINES * FRAME;
 
 // And how many of work memory.
-pub const WORK: usize = 5700;
+pub const WORK: usize = ROWS * FRAME + RINGS;
+
+// Where b0 stands among the coefficients of a filter.
+const B0: usize = 2;
 
 // The three reverb times (R9.1).
 pub fn times() -> Times
@@ -37,18 +58,22 @@ pub fn times() -> Times
 
 // By what filter k multiplies: band 0 of a line halves, every other filter lets by.
 fn b0(k: usize) -> f32
-    ensures { λ r. ⌜ r ≡ cond (ltb k 48 && eqb (k % 3) 0) (ofBits binary32 0x3f00_0000) (ofBits binary32 0x3f80_0000) ⌝ }
+    ensures { λ r. ⌜ r ≡ cond (ltb k (3 * wall .lines) && eqb (k % 3) 0) (ofBits binary32 0x3f00_0000) (ofBits binary32 0x3f80_0000) ⌝ }
 {
-    if and(k < 48, k % 3 == 0) { 0.5 } else { 1.0 }
+    if and(k < TONE, k % BANDS == 0) {
+        0.5
+    } else {
+        1.0
+    }
 }
 
 // The coefficients of all filters, five each (R9.3).
-pub fn coefficients() -> [f32; 255]
+pub fn coefficients() -> [f32; COEFFICIENTS]
     ensures { λ r. ⌜ r ≡ coefficients ⌝ }
 {
-    let mut cs = [0.0f32; 255];
-    for k in 0..51usize {
-        cs[5 * k + 2] = b0(k);
+    let mut cs = [0.0f32; COEFFICIENTS];
+    for k in 0..FILTERS {
+        cs[PER_FILTER * k + B0] = b0(k);
     }
     cs
 }
@@ -58,7 +83,7 @@ pub fn start(store: &mut [f32; STORE]) -> Outcome
     ensures { λ r. ⌜ r ≡ outcome Accepted (freshUnit wall rate frame) TailComplete ⌝ }
     ensures { λ _. ⌜ now (store .exit) ≡ replicate storeFloats +0 ⌝ }
 {
-    reverb::fresh(48000, 128, store)
+    reverb::fresh(RATE, FRAME, store)
 }
 
 // How many tail calls a count asks for (R9.11).

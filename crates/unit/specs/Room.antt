@@ -6,13 +6,14 @@ use lib.Dec.{leb, eqb}
 use Rattle.samples.specs.Lists.{allFrom}
 use Rattle.samples.specs.Sizes.{frameOk}
 use Rattle.delay.specs.declared.Cursors.{Cursors}
+use Rattle.delay.specs.Calls.{longestRing}
 use Rattle.unit.specs.Model.{Model}
 use Rattle.unit.specs.Sizes.{storeLen, workLen}
 use Rattle.unit.specs.Range.{cursorsIn}
 
 -- every ring of the lengths ls holds a frame of f samples, and is no longer than a ring may be (R1.4)
 unfoldable pub ringsHold : ℕ → List ℕ → Bool
-ringsHold f ls = allFrom (λ i l. leb f l && leb l 65536) 0 ls
+ringsHold f ls = allFrom (λ i l. leb f l && leb l longestRing) 0 ls
 
 -- R1.19, R1.21, R1.25: the lengths of the memory lent, of a store of lines' rings of the lengths ls, of the work memory and of the output
 abbrev pub lentFor : Model → ℕ → List ℕ → ℕ → ℕ → ℕ → Bool

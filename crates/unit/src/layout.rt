@@ -26,8 +26,11 @@ pub const FACTOR: f32 = 0.25;
 // What the sum of the lines is divided by.
 pub const DIVISOR: f32 = 16.0;
 
-// The lengths of the allpass rings x0, y0, x1 and y1.
-pub const PASSES: [usize; 4] = [225, 341, 341, 441];
+// The allpass rings: x0, y0, x1 and y1.
+pub const PASS_RINGS: usize = 4;
+
+// Their lengths.
+pub const PASSES: [usize; PASS_RINGS] = [225, 341, 341, 441];
 
 // All four of them: 1,348.
 pub const RINGS: usize = PASSES[0] + PASSES[1] + PASSES[2] + PASSES[3];
@@ -36,9 +39,6 @@ pub const RINGS: usize = PASSES[0] + PASSES[1] + PASSES[2] + PASSES[3];
 // line, 7,600.
 pub const DELAYS_AND_RINGS: usize = LINES / 4 * (DELAYS[0] + DELAYS[1] + DELAYS[2] + DELAYS[3])
     + RINGS;
-
-// The longest ring.
-pub const LONGEST_RING: usize = 65536;
 
 // The rows of the work memory, a frame each: row 0 is the input, and from row 1 on lie the lines read.
 // The lines mixed lie from this row on.

@@ -8,19 +8,21 @@ mod sizes;
 
 pub use layout::BANDS;
 pub use layout::COEFFICIENTS;
+pub use layout::DELAYS_AND_RINGS;
 pub use layout::DIVISOR;
 pub use layout::FACTOR;
 pub use layout::FILTERS;
 pub use layout::JOBS;
 pub use layout::LINE_MARK;
 pub use layout::LINES;
-pub use layout::LONGEST_RING;
 pub use layout::MIX_MARK;
 pub use layout::MIXED_ROW;
 pub use layout::OUTPUT_MARK;
 pub use layout::OUTPUT_ROW;
+pub use layout::PASS_RINGS;
 pub use layout::PASSES;
 pub use layout::PER_FILTER;
+pub use layout::RINGS;
 pub use layout::ROWS;
 pub use layout::TONE;
 pub use range::in_range;
@@ -51,7 +53,7 @@ pub struct State {
     pub rate: u32,
     pub frame: usize,
     pub lines: [Cursors; LINES],
-    pub passes: [Cursors; 4],
+    pub passes: [Cursors; PASS_RINGS],
     pub count: Frames,
     pub filters: [Filter; FILTERS],
     pub busy: bool,
@@ -74,7 +76,7 @@ pub fn fresh_state(rate: u32, frame: usize) -> State
         rate,
         frame,
         lines: [start; LINES],
-        passes: [start; 4],
+        passes: [start; PASS_RINGS],
         count: Frames(0),
         filters: [blank; FILTERS],
         busy: false,

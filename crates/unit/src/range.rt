@@ -3,6 +3,7 @@ use crate::State;
 use crate::layout::FILTERS;
 use crate::layout::JOBS;
 use crate::layout::LINES;
+use crate::layout::PASS_RINGS;
 use crate::layout::PASSES;
 use crate::sizes::lengths;
 use delay::Cursors;
@@ -57,11 +58,11 @@ fn blank_open(s: State) -> bool
 }
 
 // Whether both cursors of each allpass ring are within it.
-pub(crate) fn passes_ok(cs: [Cursors; 4]) -> bool
+pub(crate) fn passes_ok(cs: [Cursors; PASS_RINGS]) -> bool
     ensures { λ r. ⌜ r ≡ cursorsIn (wall .passes) cs ⌝ }
 {
     let mut ok = true;
-    for i in 0..4usize {
+    for i in 0..PASS_RINGS {
         let c = cs[i];
         ok = and(ok, below(c, PASSES[i]));
     }

@@ -1,13 +1,14 @@
 // The memory and the rings that a frame asks.
 use crate::State;
 use crate::layout::LINES;
-use crate::layout::LONGEST_RING;
+use crate::layout::PASS_RINGS;
 use crate::range::cursors_in;
 use crate::range::passes_ok;
 use crate::sizes::is_store;
 use crate::sizes::store_ok;
 use crate::sizes::work_ok;
 use delay::Cursors;
+use delay::LONGEST_RING;
 use samples::and;
 use samples::frame_ok;
 ghost use mathlib.Core.Path.{_≡_};
@@ -47,7 +48,7 @@ pub fn room_ok(
     frame: usize,
     ls: [usize; LINES],
     cs: [Cursors; LINES],
-    qs: [Cursors; 4],
+    qs: [Cursors; PASS_RINGS],
     store: usize,
     work: usize,
     output: usize,

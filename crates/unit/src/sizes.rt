@@ -10,7 +10,7 @@ ghost use mathlib.Core.Bool.{cond};
 ghost use Prim.Native.Nat.{_+_, _*_, _<_, _≤_};
 ghost use lib.Dec.{eqb};
 ghost use lib.ListN.{replicate};
-ghost use Rattle.samples.specs.Sizes.{frameOk};
+ghost use Rattle.samples.specs.Sizes.{longestFrame, frameOk};
 ghost use Rattle.unit.specs.UnitState.{ofState};
 ghost use Rattle.unit.specs.Model.{wall};
 ghost use Rattle.unit.specs.Sizes.{lengths, storeLen, workLen};
@@ -29,7 +29,7 @@ pub fn lengths(s: State) -> [usize; LINES]
 
 // The same where it is in range.
 fn lengths_of(s: State) -> [usize; LINES]
-    requires { ⌜ s .frame ≤ 1024 ⌝ }
+    requires { ⌜ s .frame ≤ longestFrame ⌝ }
     ensures { λ r. ⌜ r ≡ lengths wall (ofState s) ⌝ }
 {
     let mut ls = [0usize; LINES];

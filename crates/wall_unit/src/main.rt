@@ -5,6 +5,7 @@
 // bytes are read or written.
 use libc::STDIN_FILENO;
 use libc::STDOUT_FILENO;
+use shell::BYTES;
 use shell::STORE;
 use shell::WORK;
 use unit::State;
@@ -46,7 +47,7 @@ fn get(bytes: &mut [u8]) -> usize
 }
 
 // Writes a frame. A write that fails is said (R9.15).
-fn put(out: &[u8; 512]) -> bool {
+fn put(out: &[u8; BYTES]) -> bool {
     let written = io::write_all(STDOUT_FILENO, out);
     if !written {
         os::fail(b"wall_unit: standard output");
@@ -56,7 +57,7 @@ fn put(out: &[u8; 512]) -> bool {
 
 // A frame of input (R9.5). The last may be short, and fewer bytes than a sample's are none (R9.7).
 fn turn(s: State, store: &mut [f32; STORE], work: &mut [f32; WORK]) -> Went {
-    let mut bytes = [0u8; 512];
+    let mut bytes = [0u8; BYTES];
     let n = get(&mut bytes);
     if n < 4 {
         return Went {
@@ -65,14 +66,14 @@ fn turn(s: State, store: &mut [f32; STORE], work: &mut [f32; WORK]) -> Went {
             last: true,
         };
     }
-    let mut out = [0u8; 512];
+    let mut out = [0u8; BYTES];
     let a = shell::input_frame(s, &bytes[0..n], store, work, &mut out);
     let state = a.state;
     let written = put(&out);
     Went {
         state,
         written,
-        last: !written || n < 512,
+        last: !written || n < BYTES,
     }
 }
 
@@ -100,7 +101,7 @@ fn frames(s: State, store: &mut [f32; STORE], work: &mut [f32; WORK]) -> Went {
 
 // A frame of the tail.
 fn tail_turn(s: State, store: &mut [f32; STORE], work: &mut [f32; WORK]) -> Went {
-    let mut out = [0u8; 512];
+    let mut out = [0u8; BYTES];
     let a = shell::tail_frame(s, store, work, &mut out);
     let state = a.state;
     let written = put(&out);
