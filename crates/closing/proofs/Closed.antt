@@ -2,17 +2,16 @@
 use mathlib.Core.Path.{_≡_, refl, ap, _∙_}
 use mathlib.Core.Bool.{Bool, true, false, cond}
 use mathlib.Core.List.{List}
-use Prim.Native.Nat.{ℕ}
 use lib.Ieee.{Float}
 use lib.ListN.{length, replicate}
 use Rattle.samples.specs.Sizes.{frameOk}
 use Rattle.samples.proofs.Laws.{split-and}
 use Rattle.unit.specs.declared.State.{State}
+use Rattle.unit.specs.declared.Rings.{Rings}
 use Rattle.unit.specs.declared.Outcome.{Outcome}
 use Rattle.unit.specs.UnitState.{ofState}
 use Rattle.unit.specs.Model.{wall}
-use Rattle.unit.specs.Sizes.{lengths}
-use Rattle.unit.specs.Room.{roomOk}
+use Rattle.unit.specs.Room.{unitRings, roomOk}
 use Rattle.rows.specs.Rows.{Rows, rowsOf}
 use Rattle.frame.specs.declared.Stepped.{Stepped}
 use Rattle.frame.specs.Parts.{rowsFinite}
@@ -22,18 +21,18 @@ use Rattle.machine.specs.Jobs as machine
 use Rattle.machine.proofs.Ends.{Ends}
 use Rattle.closing.specs.Workers.{concluded}
 
--- where there is room for the frame, and the lengths asked of it are the unit's
+-- where there is room for the frame, and the rings are the unit's
 pub as-ended : (s : State) (store work output : List Float)
-    → roomOk wall (s .frame) (lengths wall (ofState s)) (s .lines) (s .passes) (length store) (length work) (length output) ≡ true
-    → (ls : List ℕ) → ls ≡ lengths wall (ofState s) → (x : Stepped) (y : Outcome) (store′ work′ output′ : List Float)
-    → let l = finished wall (s .frame) ls (s .lines) (s .passes) (s .filters) store work output in
+    → roomOk wall (s .frame) (unitRings wall (ofState s)) (length store) (length work) (length output) ≡ true
+    → (r : Rings) → r ≡ unitRings wall (ofState s) → (x : Stepped) (y : Outcome) (store′ work′ output′ : List Float)
+    → let l = finished wall (s .frame) r (s .filters) store work output in
     x ≡ l .stepped → store′ ≡ l .store → work′ ≡ l .work → output′ ≡ l .output → y ≡ concluded (ofState s) x
     → Ends (machine.ended wall (lend s store work) (rowsOf wall (s .frame) work) output) y store′ work′ output′
 unfolding leftBy machine.ended
-as-ended s store work output room ls e x y store′ work′ output′ ex es ew eo ey =
-    let here : finished wall (s .frame) ls (s .lines) (s .passes) (s .filters) store work output ≡ R =
-    ap (λ (k : List ℕ). finished wall (s .frame) k (s .lines) (s .passes) (s .filters) store work output) e
-    ∙ ap (λ (b : Bool). cond b R (untouched (s .lines) (s .passes) (s .filters) store work output)) room in
+as-ended s store work output room v e x y store′ work′ output′ ex es ew eo ey =
+    let here : finished wall (s .frame) v (s .filters) store work output ≡ R =
+    ap (λ (k : Rings). finished wall (s .frame) k (s .filters) store work output) e
+    ∙ ap (λ (b : Bool). cond b R (untouched (unitRings wall (ofState s)) (s .filters) store work output)) room in
     let q = go (rowsFinite (s .filters) r) refl in (
       ey ∙ ap (concluded (ofState s)) (ex ∙ ap (λ (l : Left). l .stepped) here) ∙ q .0,
       (
@@ -46,7 +45,7 @@ as-ended s store work output room ls e x y store′ work′ output′ ex es ew e
     r = rowsOf wall (s .frame) work
 
     R : Left
-    R = finishedWithRoom wall (s .frame) (lengths wall (ofState s)) (s .lines) (s .passes) (s .filters) store work output
+    R = finishedWithRoom wall (s .frame) (unitRings wall (ofState s)) (s .filters) store work output
 
     go : (b : Bool) → rowsFinite (s .filters) r ≡ b
         → Ends (machine.ended wall (lend s store work) r output) (concluded (ofState s) (R .stepped)) (R .store) (R .work) (R .output)

@@ -5,7 +5,6 @@ mod ends;
 
 use crate::ends::concluded;
 use crate::ends::shut;
-use frame::Rings;
 use frame::close_frame;
 use judges::judge_abandon;
 use judges::judge_close;
@@ -13,8 +12,8 @@ use samples::clear;
 use samples::is_accepted;
 use unit::Outcome;
 use unit::State;
-use unit::lengths;
 use unit::quiet;
+use unit::rings_of;
 ghost use mathlib.Core.Path.{_≡_};
 ghost use mathlib.Core.List.{[]};
 ghost use Rattle.unit.specs.Model.{wall};
@@ -34,16 +33,8 @@ pub fn close(s: State, store: &mut [f32], work: &mut [f32], output: &mut [f32]) 
         return quiet(answer, s);
     }
     let f = s.frame;
-    let lengths = lengths(s);
-    let lines = s.lines;
-    let passes = s.passes;
     let fs = s.filters;
-    let rings = Rings {
-        lengths,
-        lines,
-        passes,
-    };
-    let r = close_frame(f, rings, fs, store, work, output);
+    let r = close_frame(f, rings_of(s), fs, store, work, output);
     concluded(s, r)
 }
 

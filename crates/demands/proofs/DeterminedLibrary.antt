@@ -108,6 +108,7 @@ library-determined = record {
     quiet = λ κs a x y s t p q. p ∙ sym q;
     lent-ok = λ κs a x y s t p q. p ∙ sym q;
     rings-hold = λ κs a x y s t p q. p ∙ sym q;
+    rings-of = λ κs a x y s t p q. p ∙ sym q;
     room-ok = λ κs a x y s t p q. p ∙ sym q;
     in-range = λ κs a x y s t p q. p ∙ sym q;
     lengths = λ κs a x y s t p q. p ∙ sym q;

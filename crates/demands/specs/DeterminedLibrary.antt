@@ -138,6 +138,8 @@ use Rattle.unit.proofs.lent_ok.Kinds as unit-lent-ok-kinds
 use Rattle.unit.proofs.lent_ok.Reads as unit-lent-ok-reads
 use Rattle.unit.proofs.rings_hold.Kinds as unit-rings-hold-kinds
 use Rattle.unit.proofs.rings_hold.Reads as unit-rings-hold-reads
+use Rattle.unit.proofs.rings_of.Kinds as unit-rings-of-kinds
+use Rattle.unit.proofs.rings_of.Reads as unit-rings-of-reads
 use Rattle.unit.proofs.room_ok.Kinds as unit-room-ok-kinds
 use Rattle.unit.proofs.room_ok.Reads as unit-room-ok-reads
 use Rattle.unit.proofs.in_range.Kinds as unit-in-range-kinds
@@ -326,6 +328,7 @@ pub record UnitDetermined : Type 0 where
   pub quiet : Determined 0 unit-quiet-kinds.ps unit-quiet-kinds.r unit-quiet-reads.Post
   pub lent-ok : Determined 0 unit-lent-ok-kinds.ps unit-lent-ok-kinds.r unit-lent-ok-reads.Post
   pub rings-hold : Determined 0 unit-rings-hold-kinds.ps unit-rings-hold-kinds.r unit-rings-hold-reads.Post
+  pub rings-of : Determined 0 unit-rings-of-kinds.ps unit-rings-of-kinds.r unit-rings-of-reads.Post
   pub room-ok : Determined 0 unit-room-ok-kinds.ps unit-room-ok-kinds.r unit-room-ok-reads.Post
   pub in-range : Determined 0 unit-in-range-kinds.ps unit-in-range-kinds.r unit-in-range-reads.Post
   pub lengths : Determined 0 unit-lengths-kinds.ps unit-lengths-kinds.r unit-lengths-reads.Post

@@ -17,6 +17,7 @@ use Rattle.stages.specs.Settle.{filtersFinite, frameFinite, putRows}
 use Rattle.stages.proofs.RowLaws.{length-readRows}
 use Rattle.stages.proofs.FrameLaws.{put-beside, out-long}
 use Rattle.delay.specs.declared.Cursors.{Cursors}
+use Rattle.unit.specs.declared.Rings.{Rings}
 use Rattle.unit.specs.Sizes.{total}
 use Rattle.frame.specs.Workers.{framed, frameBy, FrameFits, SettleFits, judgedStore, judgedOut}
 use Rattle.frame.proofs.LineLaws.{lines-held}
@@ -54,9 +55,9 @@ pub none-over : (gs fs : List Filter) (k : ℕ) → length fs ≤ k → gs ++ dr
 none-over gs fs k h = rw (drop-of-length-le fs h) (append-nil gs)
 
 -- what is asked of the memory lent to settle a frame, from what its rows ask
-pub settle-fits : (n f : ℕ) (ls : List ℕ) (cs : List Cursors) (ps : List ℕ) (store work w output : ℕ) → FrameFits n f ls cs ps store work → w ≡ work → output ≡ f
-    → SettleFits n f ls cs store w output
-settle-fits n f ls cs ps store work w output h e o =
+pub settle-fits : (n f : ℕ) (v : Rings) (store work w output : ℕ) → FrameFits n f v store work → w ≡ work → output ≡ f
+    → SettleFits n f (v .lengths) (v .lines) store w output
+settle-fits n f v store work w output h e o =
     record {
       lines = record { few = h .few; some = h .frame; small = h .small; rows-are = refl; rings = h .rings };
       rows = omega (arith, e, h .work-is);
@@ -72,19 +73,19 @@ pub record Ran (n f : ℕ) (ls : List ℕ) (cs : List Cursors) (r : Frame) (gs :
       → cond ok (putRows f n 0 ls cs (take (n * f) (drop (f + n * f) w)) (drop (f + n * f + n * f + f) w) store) store ≡ judgedStore n f ls cs r store
   pub given : (ok : Bool) (output : List Float) → ok ≡ frameFinite r → cond ok (take f (drop (f + n * f + n * f) w)) output ≡ judgedOut r output
 
-pub frame-run : (n f : ℕ) (k d : Float) (tail : Bool) (ls : List ℕ) (cs : List Cursors) (ps : List ℕ) (qs : List Cursors) (fs gs : List Filter)
-    (store work w : List Float) → FrameFits n f ls cs ps (length store) (length work) → length fs ≤ 3 * n + 3
-    → let r = frameBy n f k d tail ls cs ps qs fs (take f work) store in
-    gs ≡ newFilters r ++ drop (3 * n + 3) fs → w ≡ framed (take f work) r → Ran n f ls cs r gs store w
+pub frame-run : (n f : ℕ) (k d : Float) (tail : Bool) (v : Rings) (fs gs : List Filter) (store work w : List Float)
+    → FrameFits n f v (length store) (length work) → length fs ≤ 3 * n + 3
+    → let r = frameBy n f k d tail v fs (take f work) store in
+    gs ≡ newFilters r ++ drop (3 * n + 3) fs → w ≡ framed (take f work) r → Ran n f (v .lengths) (v .lines) r gs store w
 unfolding judgedStore judgedOut
-frame-run n f k d tail ls cs ps qs fs gs store work w h all eg ew =
+frame-run n f k d tail v fs gs store work w h all eg ew =
     let m = n * f in
     let input = take f work in
-    let r = frameBy n f k d tail ls cs ps qs fs input store in
+    let r = frameBy n f k d tail v fs input store in
     let li : length input ≡ f = length-take-le f work (omega (arith, h .work-is)) in
-    let lr : length (r .reads) ≡ m = length-readRows f ls cs n 0 store (lines-held f ls cs (length store) n (h .rings)) in
+    let lr : length (r .reads) ≡ m = length-readRows f (v .lengths) (v .lines) n 0 store (lines-held f (v .lengths) (v .lines) (length store) n (h .rings)) in
     let lp : length (r .lines .put) ≡ m = put-beside n f k fs input (r .reads) tail li in
-    let lo : length (r .output .out) ≡ f = out-long n f d ps qs fs (drop (total (take n ls)) store) (r .reads) (h .fours) in
+    let lo : length (r .output .out) ≡ f = out-long n f d (v .sizes) (v .passes) fs (drop (total (take n (v .lengths))) store) (r .reads) (h .fours) in
     let new : gs ≡ newFilters r = eg ∙ none-over (newFilters r) fs (3 * n + 3) all in
     record {
       filters = new;

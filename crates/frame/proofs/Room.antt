@@ -15,11 +15,12 @@ use Rattle.samples.proofs.Laws.{split-and, frame-of}
 use Rattle.delay.specs.declared.Cursors.{Cursors}
 use Rattle.delay.specs.Calls.{both}
 use Rattle.iir.specs.declared.Filter.{Filter}
+use Rattle.unit.specs.declared.Rings.{Rings}
 use Rattle.unit.specs.Model.{wall}
 use Rattle.unit.specs.Sizes.{total, storeLen, workLen}
 use Rattle.unit.specs.Range.{cursorsIn}
-use Rattle.unit.specs.Room.{ringsHold, roomOk}
-use Rattle.unit.proofs.Ranges.{Below, cursors-at, holds-at}
+use Rattle.unit.specs.Room.{ringsHold, passesAre, roomOk}
+use Rattle.unit.proofs.Ranges.{Below, cursors-at, holds-at, passes-same}
 use Rattle.rows.proofs.RowsOf.{work-parts}
 use Rattle.stages.specs.Frame.{Frame, frameFrom, frameIn}
 use Rattle.stages.proofs.RowLaws.{total-more}
@@ -68,15 +69,19 @@ store-parts : (ls : List ℕ) (store : ℕ) → length ls ≡ 16 → store ≡ s
 unfolding storeLen
 store-parts ls store long e = rw (every-line ls long) e
 
-pub room-fits : (f : ℕ) (ls : List ℕ) (cs qs : List Cursors) (store work output : ℕ) → length ls ≡ 16 → roomOk wall f ls cs qs store work output ≡ true
-    → WholeFits wall f ls cs qs store work output
+pub room-fits : (f : ℕ) (r : Rings) (store work output : ℕ) → length (r .lengths) ≡ 16 → length (r .sizes) ≡ 4
+    → roomOk wall f r store work output ≡ true → WholeFits wall f r store work output
 unfolding roomOk
-room-fits f ls cs qs store work output long e =
+room-fits f r store work output long four e =
+    let ls = r .lengths in
+    let cs = r .lines in
     let lent = eqb store (storeLen wall ls) && (eqb work (workLen wall f) && eqb output f) in
     let p = split-and (frameOk f) _ e in
-    let h = split-and (ringsHold f ls) _ (p .1) in
-    let q = split-and (cursorsIn ls cs && cursorsIn (wall .passes) qs) lent (h .1) in
-    let c = split-and (cursorsIn ls cs) (cursorsIn (wall .passes) qs) (q .0) in
+    let o = split-and (ringsHold f ls && passesAre wall (r .sizes)) _ (p .1) in
+    let h = split-and (ringsHold f ls) (passesAre wall (r .sizes)) (o .0) in
+    let same = passes-same (r .sizes) four (h .1) in
+    let q = split-and (cursorsIn ls cs && cursorsIn (r .sizes) (r .passes)) lent (o .1) in
+    let c = split-and (cursorsIn ls cs) (cursorsIn (r .sizes) (r .passes)) (q .0) in
     let l = split-and (eqb store (storeLen wall ls)) _ (q .1) in
     let g = split-and (eqb work (workLen wall f)) (eqb output f) (l .1) in
     let parts = store-parts ls store long (eqb-true _ _ (l .0)) in
@@ -91,19 +96,21 @@ room-fits f ls cs qs store work output long e =
         small = omega (arith, d .hi);
         fours = d .fours;
         rings = rings-of f ls cs some (h .0) (c .0) 16 0 0 store (omega (arith, long)) (omega (arith, parts));
-        passes = passes-small;
-        four = refl;
-        store-is = parts;
-        work-is = work-parts f work (eqb-true _ _ (g .0));
+        passes = rw same passes-small;
+        four = four;
+        store-is = rw same parts;
+        work-is = rw same (work-parts f work (eqb-true _ _ (g .0)));
       };
-      lines = lines-within f ls cs some (h .0) (c .0) 16 0 (omega (arith, long));
-      passes = passes-within qs (c .1);
+      within = record {
+        lines = lines-within f ls cs some (h .0) (c .0) 16 0 (omega (arith, long));
+        passes = rw same (passes-within (r .passes) (rw same at (c .1)));
+      };
       short = d .hi;
       out = eqb-true _ _ (g .1);
     }
 
 -- the frame of sixteen lines, the wall unit's factor and its divisor is the wall unit's
-pub frame-wall : (f : ℕ) (tail : Bool) (ls : List ℕ) (cs qs : List Cursors) (fs : List Filter) (input store : List Float) → length ls ≡ 16
-    → frameBy 16 f (wall .factor) (wall .divisor) tail ls cs (wall .passes) qs fs input store ≡ frameIn wall f ls tail cs qs fs input store
+pub frame-wall : (f : ℕ) (tail : Bool) (r : Rings) (fs : List Filter) (input store : List Float) → length (r .lengths) ≡ 16
+    → frameBy 16 f (wall .factor) (wall .divisor) tail r fs input store ≡ frameIn wall f tail r fs input store
 unfolding frameFrom
-frame-wall f tail ls cs qs fs input store e = rw (every-line ls e) refl
+frame-wall f tail r fs input store e = rw (every-line (r .lengths) e) refl

@@ -13,6 +13,7 @@ use Rattle.samples.specs.Lists.{over}
 use Rattle.samples.proofs.Turns.{back}
 use Rattle.samples.proofs.Lists.{drop-two, part-long, lent-long, first-part, last-part, to-end, over-at}
 use Rattle.delay.specs.declared.Cursors.{Cursors}
+use Rattle.unit.specs.declared.Rings.{Rings}
 use Rattle.unit.specs.Sizes.{total}
 use Rattle.iir.specs.declared.Filter.{Filter}
 use Rattle.stages.specs.Lines.{noFilter, readRows}
@@ -115,8 +116,8 @@ copy-join t b store work x h l ex =
     let same : length (drop t store) ≡ length (drop b work) = rw (length-drop, length-drop) (omega arith) in
     dst .1 x ∙ rw (ex, a, to-end t store h .0, dst .0, copied-all (drop t store) (drop b work) same) refl
 
-pub frame-join : (n f : ℕ) (k d : Float) (tail : Bool) (ls : List ℕ) (cs : List Cursors) (ps : List ℕ) (qs : List Cursors) (fs gs hs : List Filter)
-    (store work x x₁ x₂ : List Float) → FrameFits n f ls cs ps (length store) (length work)
+pub frame-join : (n f : ℕ) (k d : Float) (tail : Bool) (v : Rings) (fs gs hs : List Filter) (store work x x₁ x₂ : List Float)
+    → FrameFits n f v (length store) (length work)
     → let at = f + n * f + n * f in
     let b = at + f in
     let a = length store - (length work - b) in
@@ -124,20 +125,23 @@ pub frame-join : (n f : ℕ) (k d : Float) (tail : Bool) (ls : List ℕ) (cs : L
     let q = take (at - 0) (drop 0 w) in
     let w₁ = putMid 0 (at - 0) w x₁ in
     let p = take (length w₁ - f) (drop f w₁) in
-    let r = frameBy n f k d tail ls cs ps qs fs (take f work) store in
+    let r = frameBy n f k d tail v fs (take f work) store in
     let lines = lineRows n f k tail fs (take f q) (r .reads) in
     x ≡ copied (take (length store - a) (drop a store)) (take (length work - b) (drop b work))
     → length x₁ ≡ length q → (gs ≡ lines .filters ++ drop (3 * n) fs) × (x₁ ≡ take f q ++ (r .reads ++ lines .put))
-    → (hs ≡ outputAfter n f d ps qs gs p) × (x₂ ≡ outputMade n f d ps qs gs p)
+    → (hs ≡ outputAfter n f d (v .sizes) (v .passes) gs p) × (x₂ ≡ outputMade n f d (v .sizes) (v .passes) gs p)
     → (hs ≡ newFilters r ++ drop (3 * n + 3) fs) × (putMid f (length w₁ - f) w₁ x₂ ≡ framed (take f work) r)
 unfolding framed
-frame-join n f k d tail ls cs ps qs fs gs hs store work x x₁ x₂ fits e₀ kept e₁ e₂ =
+frame-join n f k d tail v fs gs hs store work x x₁ x₂ fits e₀ kept e₁ e₂ =
+    let ls = v .lengths in
+    let ps = v .sizes in
+    let qs = v .passes in
     let at = f + n * f + n * f in
     let t = total (take n ls) in
     let input = take f work in
     let old = take f (drop at work) in
     let rings = drop t store in
-    let reads = readRows f n 0 ls cs store in
+    let reads = readRows f n 0 ls (v .lines) store in
     let lines = lineRows n f k tail fs input reads in
     let lw = fits .work-is in
     let li : length input ≡ f = length-take-le f work (omega arith) in

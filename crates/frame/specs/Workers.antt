@@ -10,12 +10,12 @@ use Rattle.search.specs.Search.{allFinite}
 use Rattle.delay.specs.declared.Cursors.{Cursors}
 use Rattle.delay.specs.Calls.{longestRing, both}
 use Rattle.iir.specs.declared.Filter.{Filter}
+use Rattle.unit.specs.declared.Rings.{Rings}
 use Rattle.unit.specs.Model.{Model, wall}
 use Rattle.unit.specs.Sizes.{total}
 use Rattle.stages.specs.Lines.{readRows}
 use Rattle.stages.specs.Frame.{Frame, lineRows, outputRow, newFilters}
 use Rattle.stages.specs.Settle.{filtersFinite, frameFinite, putRows}
-use Rattle.frame.specs.declared.Rings.{Rings}
 use Rattle.frame.specs.declared.whole.Judged.{Judged}
 
 -- a whole frame's rows: the input, the rows read, those to put, the output and the allpass rings
@@ -45,39 +45,38 @@ Within (suc n) i ls cs =
 
 -- what a frame of n lines asks of the memory lent: the lines' rings and then the allpass rings in the store; the rows and then the
 -- allpass rings in the work memory
-pub record FrameFits (n f : ℕ) (ls : List ℕ) (cs : List Cursors) (ps : List ℕ) (store work : ℕ) : Type 0 where
+pub record FrameFits (n f : ℕ) (r : Rings) (store work : ℕ) : Type 0 where
   pub few : n ≤ wall .lines
   pub some : 0 < n
   pub frame : 0 < f
   pub small : f ≤ longestRing
   pub fours : f % 4 ≡ 0
-  pub rings : RingsFit f n 0 0 ls cs store
-  pub passes : total ps ≤ longestRing
-  pub four : length ps ≡ length (wall .passes)
-  pub store-is : store ≡ total (take n ls) + total ps
-  pub work-is : work ≡ f + n * f + n * f + f + total ps
+  pub rings : RingsFit f n 0 0 (r .lengths) (r .lines) store
+  pub passes : total (r .sizes) ≤ longestRing
+  pub four : length (r .sizes) ≡ length (wall .passes)
+  pub store-is : store ≡ total (take n (r .lengths)) + total (r .sizes)
+  pub work-is : work ≡ f + n * f + n * f + f + total (r .sizes)
 
--- a frame of n lines by its parts, where a model has them: the mix's factor k, the sum's divisor d, the lengths ps and cursors qs of the
--- allpass rings
-abbrev pub frameBy : ℕ → ℕ → Float → Float → Bool → List ℕ → List Cursors → List ℕ → List Cursors → List Filter → List Float → List Float → Frame
-frameBy n f k d tail ls cs ps qs fs input store =
-    let reads = readRows f n 0 ls cs store in
+-- a frame of n lines by its parts, where a model has them: the mix's factor k and the sum's divisor d
+abbrev pub frameBy : ℕ → ℕ → Float → Float → Bool → Rings → List Filter → List Float → List Float → Frame
+frameBy n f k d tail r fs input store =
+    let reads = readRows f n 0 (r .lengths) (r .lines) store in
     record {
       reads = reads;
       lines = lineRows n f k tail fs input reads;
-      output = outputRow n f d ps qs fs (drop (total (take n ls)) store) reads;
+      output = outputRow n f d (r .sizes) (r .passes) fs (drop (total (take n (r .lengths))) store) reads;
     }
 
--- the same on a unit's rings
-abbrev pub frameOn : ℕ → ℕ → Float → Float → Bool → Rings → List ℕ → List Filter → List Float → List Float → Frame
-frameOn n f k d tail rings ps fs input store = frameBy n f k d tail (rings .lengths) (rings .lines) ps (rings .passes) fs input store
+-- the cursors of all rings of model m are within them
+pub record AllWithin (m : Model) (r : Rings) : Type 0 where
+  pub lines : Within (m .lines) 0 (r .lengths) (r .lines)
+  pub passes : Within (length (m .passes)) 0 (r .sizes) (r .passes)
 
--- what a whole frame of model m asks of the memory lent, with the lines' lengths ls and cursors cs and the allpass rings' cursors qs
-pub record WholeFits (m : Model) (f : ℕ) (ls : List ℕ) (cs qs : List Cursors) (store work output : ℕ) : Type 0 where
-  pub every : length ls ≡ m .lines
-  pub fits : FrameFits (m .lines) f ls cs (m .passes) store work
-  pub lines : Within (m .lines) 0 ls cs
-  pub passes : Within (length (m .passes)) 0 (m .passes) qs
+-- what a whole frame of model m asks of its rings and of the memory lent
+pub record WholeFits (m : Model) (f : ℕ) (r : Rings) (store work output : ℕ) : Type 0 where
+  pub every : length (r .lengths) ≡ m .lines
+  pub fits : FrameFits (m .lines) f r store work
+  pub within : AllWithin m r
   pub short : f ≤ longestFrame
   pub out : output ≡ f
 

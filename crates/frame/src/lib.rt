@@ -17,24 +17,15 @@ use unit::FACTOR;
 use unit::FILTERS;
 use unit::LINES;
 use unit::PASS_RINGS;
-use unit::PASSES;
+use unit::Rings;
 use unit::room_ok;
 ghost use mathlib.Core.Path.{_≡_};
 ghost use Prim.Native.Nat.{_≤_};
 ghost use lib.ListN.{length};
 ghost use Rattle.samples.specs.Sizes.{longestFrame};
 ghost use Rattle.unit.specs.Model.{wall};
-ghost use Rattle.stages.specs.Settle.{allMoved};
-ghost use Rattle.frame.specs.Workers.{Within, WholeFits};
-ghost use Rattle.frame.specs.Steps.{ran, ranWithRoom, finished, finishedWithRoom};
-
-// The rings of a unit: the lengths of the lines' rings, and the cursors of those and of the allpass
-// rings.
-pub struct Rings {
-    pub lengths: [usize; LINES],
-    pub lines: [Cursors; LINES],
-    pub passes: [Cursors; PASS_RINGS],
-}
+ghost use Rattle.frame.specs.Workers.{AllWithin, WholeFits};
+ghost use Rattle.frame.specs.Steps.{steppedOn, ran, ranWithRoom, finished, finishedWithRoom};
 
 // What a frame came to: whether all of it is finite, its filters, and the cursors of the rings after
 // it.
@@ -58,20 +49,19 @@ pub fn run_frame(
     work: &mut [f32],
     output: &mut [f32],
 ) -> Stepped
-    ensures { λ r. ⌜ r ≡ ran wall f (rings .lengths) tail (rings .lines) (rings .passes) fs (now (store .entry)) (now (work .entry)) (now (output .entry)) .stepped ⌝ }
-    ensures { λ _. ⌜ now (store .exit) ≡ ran wall f (rings .lengths) tail (rings .lines) (rings .passes) fs (now (store .entry)) (now (work .entry)) (now (output .entry)) .store ⌝ }
-    ensures { λ _. ⌜ now (work .exit) ≡ ran wall f (rings .lengths) tail (rings .lines) (rings .passes) fs (now (store .entry)) (now (work .entry)) (now (output .entry)) .work ⌝ }
-    ensures { λ _. ⌜ now (output .exit) ≡ ran wall f (rings .lengths) tail (rings .lines) (rings .passes) fs (now (store .entry)) (now (work .entry)) (now (output .entry)) .output ⌝ }
+    ensures { λ r. ⌜ r ≡ ran wall f rings tail fs (now (store .entry)) (now (work .entry)) (now (output .entry)) .stepped ⌝ }
+    ensures { λ _. ⌜ now (store .exit) ≡ ran wall f rings tail fs (now (store .entry)) (now (work .entry)) (now (output .entry)) .store ⌝ }
+    ensures { λ _. ⌜ now (work .exit) ≡ ran wall f rings tail fs (now (store .entry)) (now (work .entry)) (now (output .entry)) .work ⌝ }
+    ensures { λ _. ⌜ now (output .exit) ≡ ran wall f rings tail fs (now (store .entry)) (now (work .entry)) (now (output .entry)) .output ⌝ }
 {
-    let ls = rings.lengths;
-    let cs = rings.lines;
-    let qs = rings.passes;
-    if !room_ok(f, ls, cs, qs, store.len(), work.len(), output.len()) {
+    let lines = rings.lines;
+    let passes = rings.passes;
+    if !room_ok(f, rings, store.len(), work.len(), output.len()) {
         return Stepped {
             ok: false,
             filters: fs,
-            lines: cs,
-            passes: qs,
+            lines,
+            passes,
         };
     }
     wall_frame(f, rings, tail, fs, store, work, output)
@@ -87,11 +77,11 @@ fn wall_frame(
     work: &mut [f32],
     output: &mut [f32],
 ) -> Stepped
-    requires { ⌜ WholeFits wall f (rings .lengths) (rings .lines) (rings .passes) (length (now store)) (length (now work)) (length (now output)) ⌝ }
-    ensures { λ r. ⌜ r ≡ ranWithRoom wall f (rings .lengths) tail (rings .lines) (rings .passes) fs (now (store .entry)) (now (work .entry)) (now (output .entry)) .stepped ⌝ }
-    ensures { λ _. ⌜ now (store .exit) ≡ ranWithRoom wall f (rings .lengths) tail (rings .lines) (rings .passes) fs (now (store .entry)) (now (work .entry)) (now (output .entry)) .store ⌝ }
-    ensures { λ _. ⌜ now (work .exit) ≡ ranWithRoom wall f (rings .lengths) tail (rings .lines) (rings .passes) fs (now (store .entry)) (now (work .entry)) (now (output .entry)) .work ⌝ }
-    ensures { λ _. ⌜ now (output .exit) ≡ ranWithRoom wall f (rings .lengths) tail (rings .lines) (rings .passes) fs (now (store .entry)) (now (work .entry)) (now (output .entry)) .output ⌝ }
+    requires { ⌜ WholeFits wall f rings (length (now store)) (length (now work)) (length (now output)) ⌝ }
+    ensures { λ r. ⌜ r ≡ ranWithRoom wall f rings tail fs (now (store .entry)) (now (work .entry)) (now (output .entry)) .stepped ⌝ }
+    ensures { λ _. ⌜ now (store .exit) ≡ ranWithRoom wall f rings tail fs (now (store .entry)) (now (work .entry)) (now (output .entry)) .store ⌝ }
+    ensures { λ _. ⌜ now (work .exit) ≡ ranWithRoom wall f rings tail fs (now (store .entry)) (now (work .entry)) (now (output .entry)) .work ⌝ }
+    ensures { λ _. ⌜ now (output .exit) ≡ ranWithRoom wall f rings tail fs (now (store .entry)) (now (work .entry)) (now (output .entry)) .output ⌝ }
 {
     let r = judge_frame(
         LINES,
@@ -100,7 +90,6 @@ fn wall_frame(
         DIVISOR,
         tail,
         rings,
-        PASSES,
         fs,
         store,
         work,
@@ -112,14 +101,15 @@ fn wall_frame(
 
 // What a frame came to, its filters `fs`, with the cursors moved on.
 fn moved_on(ok: bool, f: usize, rings: Rings, fs: [Filter; FILTERS]) -> Stepped
-    requires { ⌜ (f ≤ longestFrame) × Within (wall .lines) 0 (rings .lengths) (rings .lines) × Within (length (wall .passes)) 0 (wall .passes) (rings .passes) ⌝ }
-    ensures { λ r. ⌜ r ≡ record { ok = ok; filters = fs; lines = allMoved f (rings .lengths) (rings .lines); passes = allMoved f (wall .passes) (rings .passes) } ⌝ }
+    requires { ⌜ (f ≤ longestFrame) × AllWithin wall rings ⌝ }
+    ensures { λ r. ⌜ r ≡ steppedOn f rings ok fs ⌝ }
 {
     let ls = rings.lengths;
     let cs = rings.lines;
+    let ps = rings.sizes;
     let qs = rings.passes;
     let lines = move_lines(LINES, f, ls, cs);
-    let passes = move_passes(f, PASSES, qs);
+    let passes = move_passes(f, ps, qs);
     Stepped {
         ok,
         filters: fs,
@@ -139,20 +129,19 @@ pub fn close_frame(
     work: &mut [f32],
     output: &mut [f32],
 ) -> Stepped
-    ensures { λ r. ⌜ r ≡ finished wall f (rings .lengths) (rings .lines) (rings .passes) fs (now (store .entry)) (now (work .entry)) (now (output .entry)) .stepped ⌝ }
-    ensures { λ _. ⌜ now (store .exit) ≡ finished wall f (rings .lengths) (rings .lines) (rings .passes) fs (now (store .entry)) (now (work .entry)) (now (output .entry)) .store ⌝ }
-    ensures { λ _. ⌜ now (work .exit) ≡ finished wall f (rings .lengths) (rings .lines) (rings .passes) fs (now (store .entry)) (now (work .entry)) (now (output .entry)) .work ⌝ }
-    ensures { λ _. ⌜ now (output .exit) ≡ finished wall f (rings .lengths) (rings .lines) (rings .passes) fs (now (store .entry)) (now (work .entry)) (now (output .entry)) .output ⌝ }
+    ensures { λ r. ⌜ r ≡ finished wall f rings fs (now (store .entry)) (now (work .entry)) (now (output .entry)) .stepped ⌝ }
+    ensures { λ _. ⌜ now (store .exit) ≡ finished wall f rings fs (now (store .entry)) (now (work .entry)) (now (output .entry)) .store ⌝ }
+    ensures { λ _. ⌜ now (work .exit) ≡ finished wall f rings fs (now (store .entry)) (now (work .entry)) (now (output .entry)) .work ⌝ }
+    ensures { λ _. ⌜ now (output .exit) ≡ finished wall f rings fs (now (store .entry)) (now (work .entry)) (now (output .entry)) .output ⌝ }
 {
-    let ls = rings.lengths;
-    let cs = rings.lines;
-    let qs = rings.passes;
-    if !room_ok(f, ls, cs, qs, store.len(), work.len(), output.len()) {
+    let lines = rings.lines;
+    let passes = rings.passes;
+    if !room_ok(f, rings, store.len(), work.len(), output.len()) {
         return Stepped {
             ok: false,
             filters: fs,
-            lines: cs,
-            passes: qs,
+            lines,
+            passes,
         };
     }
     wall_close(f, rings, fs, store, work, output)
@@ -167,11 +156,11 @@ fn wall_close(
     work: &mut [f32],
     output: &mut [f32],
 ) -> Stepped
-    requires { ⌜ WholeFits wall f (rings .lengths) (rings .lines) (rings .passes) (length (now store)) (length (now work)) (length (now output)) ⌝ }
-    ensures { λ r. ⌜ r ≡ finishedWithRoom wall f (rings .lengths) (rings .lines) (rings .passes) fs (now (store .entry)) (now (work .entry)) (now (output .entry)) .stepped ⌝ }
-    ensures { λ _. ⌜ now (store .exit) ≡ finishedWithRoom wall f (rings .lengths) (rings .lines) (rings .passes) fs (now (store .entry)) (now (work .entry)) (now (output .entry)) .store ⌝ }
-    ensures { λ _. ⌜ now (work .exit) ≡ finishedWithRoom wall f (rings .lengths) (rings .lines) (rings .passes) fs (now (store .entry)) (now (work .entry)) (now (output .entry)) .work ⌝ }
-    ensures { λ _. ⌜ now (output .exit) ≡ finishedWithRoom wall f (rings .lengths) (rings .lines) (rings .passes) fs (now (store .entry)) (now (work .entry)) (now (output .entry)) .output ⌝ }
+    requires { ⌜ WholeFits wall f rings (length (now store)) (length (now work)) (length (now output)) ⌝ }
+    ensures { λ r. ⌜ r ≡ finishedWithRoom wall f rings fs (now (store .entry)) (now (work .entry)) (now (output .entry)) .stepped ⌝ }
+    ensures { λ _. ⌜ now (store .exit) ≡ finishedWithRoom wall f rings fs (now (store .entry)) (now (work .entry)) (now (output .entry)) .store ⌝ }
+    ensures { λ _. ⌜ now (work .exit) ≡ finishedWithRoom wall f rings fs (now (store .entry)) (now (work .entry)) (now (output .entry)) .work ⌝ }
+    ensures { λ _. ⌜ now (output .exit) ≡ finishedWithRoom wall f rings fs (now (store .entry)) (now (work .entry)) (now (output .entry)) .output ⌝ }
 {
     let ls = rings.lengths;
     let cs = rings.lines;

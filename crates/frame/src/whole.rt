@@ -1,6 +1,5 @@
 // A whole frame in the work memory, judged, and settled into the store and the output where all of it
 // is finite.
-use crate::Rings;
 use crate::steps::read_lines;
 use crate::steps::settle;
 use delay::Cursors;
@@ -12,7 +11,7 @@ use samples::clear;
 use search::all_finite;
 use unit::FILTERS;
 use unit::LINES;
-use unit::PASS_RINGS;
+use unit::Rings;
 ghost use mathlib.Core.Path.{_≡_};
 ghost use mathlib.Core.Bool.{cond};
 ghost use mathlib.Core.List.{_++_};
@@ -23,7 +22,7 @@ ghost use Rattle.unit.specs.Model.{wall};
 ghost use Rattle.unit.specs.Sizes.{filtersLen};
 ghost use Rattle.stages.specs.Lines.{readRows};
 ghost use Rattle.stages.specs.Frame.{lineRows, newFilters};
-ghost use Rattle.frame.specs.Workers.{LinesFit, SettleFits, FrameFits, frameOn, framed, finiteIn, putIn, outIn};
+ghost use Rattle.frame.specs.Workers.{LinesFit, SettleFits, FrameFits, frameBy, framed, finiteIn, putIn, outIn};
 ghost use Rattle.frame.specs.Workers.{judgedOf, judgedStore, judgedOut};
 
 // What a frame in the work memory came to: whether all of it is finite, and its filters.
@@ -63,14 +62,13 @@ pub(crate) fn frame_rows(
     divisor: f32,
     tail: bool,
     rings: Rings,
-    ps: [usize; PASS_RINGS],
     fs: [Filter; FILTERS],
     store: &[f32],
     work: &mut [f32],
 ) -> [Filter; FILTERS]
-    requires { ⌜ FrameFits n f (rings .lengths) (rings .lines) ps (length (now store)) (length (now work)) ⌝ }
-    ensures { λ r. ⌜ r ≡ newFilters (frameOn n f factor divisor tail rings ps fs (take f (now (work .entry))) (now (store .entry))) ++ drop (3 * n + 3) fs ⌝ }
-    ensures { λ _. ⌜ now (work .exit) ≡ framed (take f (now (work .entry))) (frameOn n f factor divisor tail rings ps fs (take f (now (work .entry))) (now (store .entry))) ⌝ }
+    requires { ⌜ FrameFits n f rings (length (now store)) (length (now work)) ⌝ }
+    ensures { λ r. ⌜ r ≡ newFilters (frameBy n f factor divisor tail rings fs (take f (now (work .entry))) (now (store .entry))) ++ drop (3 * n + 3) fs ⌝ }
+    ensures { λ _. ⌜ now (work .exit) ≡ framed (take f (now (work .entry))) (frameBy n f factor divisor tail rings fs (take f (now (work .entry))) (now (store .entry))) ⌝ }
 {
     let at = f + n * f + n * f;
     let b = at + f;
@@ -78,6 +76,7 @@ pub(crate) fn frame_rows(
     stages::copy(&store[a..], &mut work[b..]);
     let ls = rings.lengths;
     let cs = rings.lines;
+    let ps = rings.sizes;
     let qs = rings.passes;
     let gs = play_lines(n, f, factor, tail, ls, cs, fs, store, &mut work[0..at]);
     output_row(n, f, divisor, ps, qs, gs, &mut work[f..])
@@ -168,20 +167,19 @@ pub(crate) fn judge_frame(
     divisor: f32,
     tail: bool,
     rings: Rings,
-    ps: [usize; PASS_RINGS],
     fs: [Filter; FILTERS],
     store: &mut [f32],
     work: &mut [f32],
     output: &mut [f32],
 ) -> Judged
-    requires { ⌜ FrameFits n f (rings .lengths) (rings .lines) ps (length (now store)) (length (now work)) ⌝ }
+    requires { ⌜ FrameFits n f rings (length (now store)) (length (now work)) ⌝ }
     requires { ⌜ (length (now output) ≡ f) × (3 * n + 3 ≡ filtersLen wall) ⌝ }
-    ensures { λ r. ⌜ r ≡ judgedOf (frameOn n f factor divisor tail rings ps fs (take f (now (work .entry))) (now (store .entry))) ⌝ }
-    ensures { λ _. ⌜ now (store .exit) ≡ judgedStore n f (rings .lengths) (rings .lines) (frameOn n f factor divisor tail rings ps fs (take f (now (work .entry))) (now (store .entry))) (now (store .entry)) ⌝ }
+    ensures { λ r. ⌜ r ≡ judgedOf (frameBy n f factor divisor tail rings fs (take f (now (work .entry))) (now (store .entry))) ⌝ }
+    ensures { λ _. ⌜ now (store .exit) ≡ judgedStore n f (rings .lengths) (rings .lines) (frameBy n f factor divisor tail rings fs (take f (now (work .entry))) (now (store .entry))) (now (store .entry)) ⌝ }
     ensures { λ _. ⌜ now (work .exit) ≡ replicate (length (now (work .entry))) +0 ⌝ }
-    ensures { λ _. ⌜ now (output .exit) ≡ judgedOut (frameOn n f factor divisor tail rings ps fs (take f (now (work .entry))) (now (store .entry))) (now (output .entry)) ⌝ }
+    ensures { λ _. ⌜ now (output .exit) ≡ judgedOut (frameBy n f factor divisor tail rings fs (take f (now (work .entry))) (now (store .entry))) (now (output .entry)) ⌝ }
 {
-    let gs = frame_rows(n, f, factor, divisor, tail, rings, ps, fs, store, work);
+    let gs = frame_rows(n, f, factor, divisor, tail, rings, fs, store, work);
     let ls = rings.lengths;
     let cs = rings.lines;
     let ok = finish_frame(n, f, ls, cs, gs, store, work, output);

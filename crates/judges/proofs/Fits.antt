@@ -15,14 +15,15 @@ use Rattle.samples.proofs.Laws.{split-and, join-and, needed, is-accepted, accep
 use Rattle.bands.specs.declared.Times.{Times}
 use Rattle.bands.specs.Times.{timesOk}
 use Rattle.bands.specs.Tail.{tailCount, countOf}
+use Rattle.unit.specs.declared.Rings.{Rings}
 use Rattle.unit.specs.UnitState.{UnitState}
 use Rattle.unit.specs.Model.{wall}
 use Rattle.unit.specs.Sizes.{lengths, workLen}
 use Rattle.unit.specs.Range.{cursorsIn, inRange, blankOpen}
-use Rattle.unit.specs.Room.{roomOk}
+use Rattle.unit.specs.Room.{ringsWith, unitRings, roomOk}
 use Rattle.judges.specs.Judges.{judged, judgedApply, judgedGiven, storeOk, lentOk, givenOk}
 use Rattle.unit.proofs.Laws.{work-is}
-use Rattle.unit.proofs.Ranges.{wall-holds}
+use Rattle.unit.proofs.Ranges.{wall-holds, wall-passes}
 
 -- what an accepted call tells of its state and of the lengths
 pub record Due (u : UnitState) (lent-ok : Bool) : Type 0 where
@@ -41,18 +42,18 @@ due-of u lent line turn e =
 
 -- with the lengths of a whole call there is room for its frame
 pub room-of : {lent-ok : Bool} (u : UnitState) (store work output : ℕ) → Due u lent-ok → lentOk wall u store work output ≡ true
-    → roomOk wall (u .settings .frame) (lengths wall u) (u .cursors .lines) (u .cursors .passes) store work output ≡ true
+    → roomOk wall (u .settings .frame) (unitRings wall u) store work output ≡ true
 unfolding roomOk
 room-of u store work output d lent =
     let frame = split-and (rateOk (u .settings .rate)) (frameOk (u .settings .frame)) (d .sizes) .1 in
-    join-and frame (join-and (wall-holds u (frame-of _ frame .hi)) (join-and (d .cursors) lent))
+    join-and frame (join-and (join-and (wall-holds u (frame-of _ frame .hi)) wall-passes) (join-and (d .cursors) lent))
 
--- and the lengths that the code asks are the unit's
-pub lengths-are : (u : UnitState) (store work output : ℕ) (ls : List ℕ)
-    → roomOk wall (u .settings .frame) (lengths wall u) (u .cursors .lines) (u .cursors .passes) store work output ≡ true
-    → ls ≡ cond (frameOk (u .settings .frame)) (lengths wall u) (replicate 16 0) → ls ≡ lengths wall u
+-- and the rings that the code asks for are the unit's
+pub rings-are : (u : UnitState) (store work output : ℕ) (r : Rings)
+    → roomOk wall (u .settings .frame) (unitRings wall u) store work output ≡ true
+    → r ≡ cond (frameOk (u .settings .frame)) (unitRings wall u) (ringsWith wall u (replicate 16 0)) → r ≡ unitRings wall u
 unfolding roomOk
-lengths-are u store work output ls room e = e ∙ rw (split-and (frameOk (u .settings .frame)) _ room .0) refl
+rings-are u store work output r room e = e ∙ rw (split-and (frameOk (u .settings .frame)) _ room .0) refl
 
 work-holds : (f work : ℕ) → work ≡ workLen wall f → f ≤ work
 work-holds f work e = omega (arith, work-is f)
@@ -94,7 +95,7 @@ given-of u t coefficients input lent e =
 
 -- and of the memory lent to a whole one
 pub record ApplyFits (u : UnitState) (t : Times) (coefficients input store work output : ℕ) : Type 0 where
-  pub room : roomOk wall (u .settings .frame) (lengths wall u) (u .cursors .lines) (u .cursors .passes) store work output ≡ true
+  pub room : roomOk wall (u .settings .frame) (unitRings wall u) store work output ≡ true
   pub holds : u .settings .frame ≤ work
   pub what : Given u t coefficients input (lentOk wall u store work output)
 

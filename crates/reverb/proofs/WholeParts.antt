@@ -15,11 +15,11 @@ use Rattle.samples.specs.declared.Answer.{Answer}
 use Rattle.samples.specs.Answers.{accept, accepted}
 use Rattle.iir.specs.declared.Filter.{Filter}
 use Rattle.unit.specs.declared.State.{State}
+use Rattle.unit.specs.declared.Rings.{Rings}
 use Rattle.unit.specs.declared.Outcome.{Outcome}
 use Rattle.unit.specs.UnitState.{UnitState, ofState}
 use Rattle.unit.specs.Model.{wall}
-use Rattle.unit.specs.Sizes.{lengths}
-use Rattle.unit.specs.Room.{roomOk}
+use Rattle.unit.specs.Room.{unitRings, roomOk}
 use Rattle.unit.specs.Fresh.{blank}
 use Rattle.stages.specs.Lines.{filtersOf}
 use Rattle.stages.specs.Frame.{Frame, frameFrom, frameOf, lineRows}
@@ -35,17 +35,17 @@ use Rattle.reverb.specs.Workers.{concluded, playing}
 -- where there is room, what a frame came to and left is how the call ends
 pub ended : (s : State) (tail : Bool) (fs : List Filter) (count : ℤ) (store work output : List Float)
     → let u = ofState s in
-    roomOk wall (s .frame) (lengths wall u) (s .lines) (s .passes) (length store) (length work) (length output) ≡ true
-    → (ls : List ℕ) → ls ≡ lengths wall u
+    roomOk wall (s .frame) (unitRings wall u) (length store) (length work) (length output) ≡ true
+    → (r : Rings) → r ≡ unitRings wall u
     → (x : Stepped) (y : Outcome) (store′ work′ output′ : List Float)
-    → let l = ran wall (s .frame) ls tail (s .lines) (s .passes) fs store work output in
+    → let l = ran wall (s .frame) r tail fs store work output in
     x ≡ l .stepped → store′ ≡ l .store → work′ ≡ l .work → output′ ≡ l .output → y ≡ concluded u x count
     → Ends (playing s tail fs count store work output) y store′ work′ output′
 unfolding leftBy played settled
-ended s tail fs count store work output room ls e x y store′ work′ output′ ex es ew eo ey =
-    let here : ran wall (s .frame) ls tail (s .lines) (s .passes) fs store work output ≡ R =
-    ap (λ (k : List ℕ). ran wall (s .frame) k tail (s .lines) (s .passes) fs store work output) e
-    ∙ ap (λ (b : Bool). cond b R (untouched (s .lines) (s .passes) fs store work output)) room in
+ended s tail fs count store work output room v e x y store′ work′ output′ ex es ew eo ey =
+    let here : ran wall (s .frame) v tail fs store work output ≡ R =
+    ap (λ (k : Rings). ran wall (s .frame) k tail fs store work output) e
+    ∙ ap (λ (b : Bool). cond b R (untouched (unitRings wall (ofState s)) fs store work output)) room in
     let q = go (frameFinite r) refl in (
       ey ∙ ap (λ (z : Stepped). concluded (ofState s) z count) (ex ∙ ap (λ (l : Left). l .stepped) here) ∙ q .0,
       (
@@ -58,7 +58,7 @@ ended s tail fs count store work output room ls e x y store′ work′ output′
     r = frameOf wall tail (ofState s) fs (take (s .frame) work) store
 
     R : Left
-    R = ranWithRoom wall (s .frame) (lengths wall (ofState s)) tail (s .lines) (s .passes) fs store work output
+    R = ranWithRoom wall (s .frame) (unitRings wall (ofState s)) tail fs store work output
 
     go : (b : Bool) → frameFinite r ≡ b
         → Ends (playing s tail fs count store work output) (concluded (ofState s) (R .stepped) count) (R .store) (R .work) (R .output)

@@ -1,6 +1,5 @@
 // A whole frame of a unit, and what it leaves of the state.
 use audio_buffer::verdict;
-use frame::Rings;
 use frame::Stepped;
 use frame::run_frame;
 use iir::Filter;
@@ -9,15 +8,14 @@ use samples::Frames;
 use unit::FILTERS;
 use unit::Outcome;
 use unit::State;
-use unit::lengths;
 use unit::quiet;
+use unit::rings_of;
 ghost use mathlib.Core.Path.{_≡_};
 ghost use mathlib.Core.Bool.{true};
 ghost use lib.ListN.{length};
 ghost use Rattle.unit.specs.UnitState.{ofState, toState};
 ghost use Rattle.unit.specs.Model.{wall};
-ghost use Rattle.unit.specs.Sizes.{lengths};
-ghost use Rattle.unit.specs.Room.{roomOk};
+ghost use Rattle.unit.specs.Room.{unitRings, roomOk};
 ghost use Rattle.machine.specs.Ending.{given};
 ghost use Rattle.reverb.specs.Workers.{stepped, concluded, playing};
 
@@ -61,21 +59,13 @@ pub(crate) fn whole_frame(
     work: &mut [f32],
     output: &mut [f32],
 ) -> Outcome
-    requires { ⌜ roomOk wall (s .frame) (lengths wall (ofState s)) (s .lines) (s .passes) (length (now store)) (length (now work)) (length (now output)) ≡ true ⌝ }
+    requires { ⌜ roomOk wall (s .frame) (unitRings wall (ofState s)) (length (now store)) (length (now work)) (length (now output)) ≡ true ⌝ }
     ensures { λ r. ⌜ r ≡ given (playing s tail fs (count .0) (now (store .entry)) (now (work .entry)) (now (output .entry))) ⌝ }
     ensures { λ _. ⌜ now (store .exit) ≡ playing s tail fs (count .0) (now (store .entry)) (now (work .entry)) (now (output .entry)) .memory .store ⌝ }
     ensures { λ _. ⌜ now (work .exit) ≡ playing s tail fs (count .0) (now (store .entry)) (now (work .entry)) (now (output .entry)) .memory .work ⌝ }
     ensures { λ _. ⌜ now (output .exit) ≡ playing s tail fs (count .0) (now (store .entry)) (now (work .entry)) (now (output .entry)) .output ⌝ }
 {
     let f = s.frame;
-    let lengths = lengths(s);
-    let lines = s.lines;
-    let passes = s.passes;
-    let rings = Rings {
-        lengths,
-        lines,
-        passes,
-    };
-    let r = run_frame(f, rings, tail, fs, store, work, output);
+    let r = run_frame(f, rings_of(s), tail, fs, store, work, output);
     conclude(s, r, count)
 }

@@ -38,6 +38,6 @@ inputEnds u bytes store work = playEnds u (inputPlay bytes) store work
 abbrev pub tailEnds : UnitState → List Float → List Float → Ending
 tailEnds u store work = playEnds u tail store work
 
--- "writes each frame"; "A refused frame is written as 128 zeros": four bytes each, all 0
+-- R9.8, R9.9: the bytes written, of a refused frame all 0
 unfoldable pub said : Ending → List ℕ
 said e = accept (e .answer) (encoded (e .output)) (replicate (4 * frame) 0)

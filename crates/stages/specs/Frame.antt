@@ -10,9 +10,11 @@ use Rattle.delay.specs.Calls.{both}
 use Rattle.hadamard.specs.Rows.{mixedRows}
 use Rattle.iir.specs.declared.Filter.{Filter}
 use Rattle.iir.specs.Runs.{runOut, bandsEnd}
+use Rattle.unit.specs.declared.Rings.{Rings}
 use Rattle.unit.specs.UnitState.{UnitState}
 use Rattle.unit.specs.Model.{Model}
-use Rattle.unit.specs.Sizes.{lengths, total}
+use Rattle.unit.specs.Sizes.{total}
+use Rattle.unit.specs.Room.{unitRings}
 use Rattle.allpass.specs.Passes.{Stage, passOut, passEnd}
 use Rattle.stages.specs.Lines.{noFilter, readRows, bandRows, bandEnds, addRows, sumRows, three, threeOf}
 
@@ -100,21 +102,23 @@ pub record Frame : Type 0 where
 abbrev pub newFilters : Frame → List Filter
 newFilters r = r .lines .filters ++ r .output .filters
 
-unfoldable pub frameFrom : Model → ℕ → Bool → List Cursors → List Filter → List Float → List Float → List Float → Frame
-frameFrom m f tail cs fs input rings reads = record {
+-- from the rows that were read, and from what the allpass rings hold
+unfoldable pub frameFrom : Model → ℕ → Bool → Rings → List Filter → List Float → List Float → List Float → Frame
+frameFrom m f tail r fs input passes reads = record {
   reads = reads;
   lines = lineRows (m .lines) f (m .factor) tail fs input reads;
-  output = outputRow (m .lines) f (m .divisor) (m .passes) cs fs rings reads;
+  output = outputRow (m .lines) f (m .divisor) (r .sizes) (r .passes) fs passes reads;
 }
 
 -- R1.20: the allpass rings, which lie after lines' rings of the lengths ls
 abbrev pub passesIn : List ℕ → List Float → List Float
 passesIn ls store = drop (total ls) store
 
--- the frame on the rings of a store: the lines' of the lengths ls with the cursors cs, and the allpass rings with qs
-abbrev pub frameIn : Model → ℕ → List ℕ → Bool → List Cursors → List Cursors → List Filter → List Float → List Float → Frame
-frameIn m f ls tail cs qs fs input store = frameFrom m f tail qs fs input (passesIn ls store) (readRows f (m .lines) 0 ls cs store)
+-- the frame on the rings r of a store
+abbrev pub frameIn : Model → ℕ → Bool → Rings → List Filter → List Float → List Float → Frame
+frameIn m f tail r fs input store =
+    frameFrom m f tail r fs input (passesIn (r .lengths) store) (readRows f (m .lines) 0 (r .lengths) (r .lines) store)
 
 -- the frame of a unit u
 abbrev pub frameOf : Model → Bool → UnitState → List Filter → List Float → List Float → Frame
-frameOf m tail u fs input store = frameIn m (u .settings .frame) (lengths m u) tail (u .cursors .lines) (u .cursors .passes) fs input store
+frameOf m tail u fs input store = frameIn m (u .settings .frame) tail (unitRings m u) fs input store

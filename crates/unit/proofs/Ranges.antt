@@ -5,9 +5,9 @@ use mathlib.Core.List.{List, [], _∷_, _++_}
 use Prim.Native.Nat.{ℕ, zero, suc, _+_, _-_, _*_, _<_, _≤_}
 use native.Mathlib.Nat.{add-zero, zero-add, add-suc, suc-add, not-suc-le-zero}
 use native.Mathlib.Omega.{arith}
-use lib.Dec.{leb}
+use lib.Dec.{leb, eqb}
 use lib.ListN.{length, getD, take, set, replicate}
-use borrow.Author.Tests.{ltb-true, lt-ltb, leb-true, le-leb}
+use borrow.Author.Tests.{ltb-true, lt-ltb, leb-true, le-leb, eqb-true}
 use Rattle.samples.specs.Lists.{allFrom}
 use Rattle.samples.specs.Sizes.{frameOk}
 use Rattle.samples.proofs.Laws.{split-and, join-and, all-at}
@@ -19,7 +19,7 @@ use Rattle.unit.specs.UnitState.{Settings, UnitState}
 use Rattle.unit.specs.Model.{Model, wall}
 use Rattle.unit.specs.Sizes.{lengthsFrom, lengths, total}
 use Rattle.unit.specs.Range.{below, cursorsIn}
-use Rattle.unit.specs.Room.{ringsHold}
+use Rattle.unit.specs.Room.{ringsHold, passesAre}
 
 -- what all pass, the element at i passes, and so does what stands past the end where it passes
 all-or : {A : Type 0} (p : ℕ → A → Bool) (xs : List A) (k i : ℕ) (d : A) → allFrom p k xs ≡ true → p (k + i) d ≡ true → p (k + i) (getD xs i d) ≡ true
@@ -104,6 +104,25 @@ holds-all f ls e = rings-short f 0 ls e
 pub wall-holds : (u : UnitState) → u .settings .frame ≤ 1024 → ringsHold (u .settings .frame) (lengths wall u) ≡ true
 unfolding ringsHold
 wall-holds u h = lengths-hold wall (u .settings) 16 0 0 (λ (i : ℕ). omega (arith, delay-range i)) h
+
+-- and its allpass rings
+pub wall-passes : passesAre wall (wall .passes) ≡ true
+unfolding passesAre
+wall-passes = refl
+
+pub passes-same : (ls : List ℕ) → length ls ≡ 4 → passesAre wall ls ≡ true → ls ≡ wall .passes
+unfolding passesAre
+passes-same [] l e = absurd (omega arith)
+passes-same (a ∷ []) l e = absurd (omega arith)
+passes-same (a ∷ b ∷ []) l e = absurd (omega arith)
+passes-same (a ∷ b ∷ c ∷ []) l e = absurd (omega arith)
+passes-same (a ∷ b ∷ c ∷ d ∷ []) l e =
+    let p = split-and (eqb a 225) _ e in
+    let q = split-and (eqb b 341) _ (p .1) in
+    let r = split-and (eqb c 341) _ (q .1) in
+    let s = split-and (eqb d 441) _ (r .1) in
+    λ i. eqb-true a 225 (p .0) i ∷ eqb-true b 341 (q .0) i ∷ eqb-true c 341 (r .0) i ∷ eqb-true d 441 (s .0) i ∷ []
+passes-same (a ∷ b ∷ c ∷ d ∷ x ∷ ls) l e = absurd (omega arith)
 
 -- a test of the lengths that stands behind a test of the frame may take them for those of a frame in range
 pub in-range-lengths : (ls : List ℕ) (f : ℕ) (cs : List Cursors) (rate passes blank : Bool)

@@ -3,23 +3,40 @@ use Prim.Native.Nat.{ℕ}
 use mathlib.Core.Bool.{Bool, _&&_}
 use mathlib.Core.List.{List}
 use lib.Dec.{leb, eqb}
+use lib.ListN.{getD}
 use Rattle.samples.specs.Lists.{allFrom}
 use Rattle.samples.specs.Sizes.{frameOk}
-use Rattle.delay.specs.declared.Cursors.{Cursors}
 use Rattle.delay.specs.Calls.{longestRing}
+use Rattle.unit.specs.declared.Rings.{Rings}
+use Rattle.unit.specs.UnitState.{UnitState}
 use Rattle.unit.specs.Model.{Model}
-use Rattle.unit.specs.Sizes.{storeLen, workLen}
+use Rattle.unit.specs.Sizes.{lengths, storeLen, workLen}
 use Rattle.unit.specs.Range.{cursorsIn}
+
+-- the rings of a unit, where those of its lines have the lengths ls; and as they are
+abbrev pub ringsWith : Model → UnitState → List ℕ → Rings
+ringsWith m u ls = record { lengths = ls; lines = u .cursors .lines; sizes = m .passes; passes = u .cursors .passes }
+
+abbrev pub unitRings : Model → UnitState → Rings
+unitRings m u = ringsWith m u (lengths m u)
 
 -- every ring of the lengths ls holds a frame of f samples, and is no longer than a ring may be (R1.4)
 unfoldable pub ringsHold : ℕ → List ℕ → Bool
 ringsHold f ls = allFrom (λ i l. leb f l && leb l longestRing) 0 ls
 
+-- allpass rings of the lengths ls are the model's
+unfoldable pub passesAre : Model → List ℕ → Bool
+passesAre m ls = allFrom (λ i l. eqb l (getD (m .passes) i 0)) 0 ls
+
+-- every cursor is within its ring
+abbrev pub ringsIn : Rings → Bool
+ringsIn r = cursorsIn (r .lengths) (r .lines) && cursorsIn (r .sizes) (r .passes)
+
 -- R1.19, R1.21, R1.25: the lengths of the memory lent, of a store of lines' rings of the lengths ls, of the work memory and of the output
 abbrev pub lentFor : Model → ℕ → List ℕ → ℕ → ℕ → ℕ → Bool
 lentFor m f ls store work output = eqb store (storeLen m ls) && (eqb work (workLen m f) && eqb output f)
 
--- all that is asked: f itself, rings that hold it, the cursors of the lines cs and of the allpass rings qs within them, and the memory lent
-unfoldable pub roomOk : Model → ℕ → List ℕ → List Cursors → List Cursors → ℕ → ℕ → ℕ → Bool
-roomOk m f ls cs qs store work output =
-    frameOk f && (ringsHold f ls && ((cursorsIn ls cs && cursorsIn (m .passes) qs) && lentFor m f ls store work output))
+-- all that is asked: f itself, lines' rings that hold it, the model's allpass rings, every cursor within its ring, and the memory lent
+unfoldable pub roomOk : Model → ℕ → Rings → ℕ → ℕ → ℕ → Bool
+roomOk m f r store work output =
+    frameOk f && ((ringsHold f (r .lengths) && passesAre m (r .sizes)) && (ringsIn r && lentFor m f (r .lengths) store work output))

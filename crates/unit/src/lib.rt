@@ -28,6 +28,7 @@ pub use layout::TONE;
 pub use range::in_range;
 pub use room::lent_ok;
 pub use room::rings_hold;
+pub use room::rings_of;
 pub use room::room_ok;
 pub use sizes::is_store;
 pub use sizes::lengths;
@@ -61,6 +62,15 @@ pub struct State {
     pub marks: [bool; JOBS],
     pub next: Frames,
     pub before: [Filter; FILTERS],
+}
+
+// The rings of a unit: the lengths and the cursors of the lines' rings, and the lengths (their sizes) and
+// the cursors of the allpass rings.
+pub struct Rings {
+    pub lengths: [usize; LINES],
+    pub lines: [Cursors; LINES],
+    pub sizes: [usize; PASS_RINGS],
+    pub passes: [Cursors; PASS_RINGS],
 }
 
 // The state of a unit in which nothing has sounded yet (R1.32).

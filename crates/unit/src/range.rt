@@ -29,7 +29,7 @@ pub fn in_range(s: State) -> bool
     and(
         and(rate_ok(rate), frame_ok(frame)),
         and(
-            and(cursors_in(lengths(s), lines), passes_ok(passes)),
+            and(cursors_in(lengths(s), lines), passes_in(PASSES, passes)),
             open_or_blank(s),
         ),
     )
@@ -58,13 +58,13 @@ fn blank_open(s: State) -> bool
 }
 
 // Whether both cursors of each allpass ring are within it.
-pub(crate) fn passes_ok(cs: [Cursors; PASS_RINGS]) -> bool
-    ensures { λ r. ⌜ r ≡ cursorsIn (wall .passes) cs ⌝ }
+pub(crate) fn passes_in(ls: [usize; PASS_RINGS], cs: [Cursors; PASS_RINGS]) -> bool
+    ensures { λ r. ⌜ r ≡ cursorsIn ls cs ⌝ }
 {
     let mut ok = true;
     for i in 0..PASS_RINGS {
         let c = cs[i];
-        ok = and(ok, below(c, PASSES[i]));
+        ok = and(ok, below(c, ls[i]));
     }
     ok
 }

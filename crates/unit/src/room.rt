@@ -1,21 +1,26 @@
 // The memory and the rings that a frame asks.
+use crate::Rings;
 use crate::State;
 use crate::layout::LINES;
 use crate::layout::PASS_RINGS;
+use crate::layout::PASSES;
 use crate::range::cursors_in;
-use crate::range::passes_ok;
+use crate::range::passes_in;
 use crate::sizes::is_store;
+use crate::sizes::lengths;
 use crate::sizes::store_ok;
 use crate::sizes::work_ok;
-use delay::Cursors;
 use delay::LONGEST_RING;
 use samples::and;
 use samples::frame_ok;
 ghost use mathlib.Core.Path.{_≡_};
+ghost use mathlib.Core.Bool.{cond};
+ghost use lib.ListN.{replicate};
+ghost use Rattle.samples.specs.Sizes.{frameOk};
 ghost use Rattle.unit.specs.UnitState.{ofState};
 ghost use Rattle.unit.specs.Model.{wall};
 ghost use Rattle.unit.specs.Sizes.{lengths};
-ghost use Rattle.unit.specs.Room.{ringsHold, lentFor, roomOk};
+ghost use Rattle.unit.specs.Room.{ringsWith, unitRings, ringsHold, passesAre, lentFor, roomOk};
 
 // Whether the store, the work memory and the output have the lengths that a unit asks (R1.19, R1.21,
 // R1.25).
@@ -42,26 +47,49 @@ pub fn rings_hold(frame: usize, ls: [usize; LINES]) -> bool
     ok
 }
 
-// Whether a frame of `frame` samples can be played: on lines of the lengths `ls` with the cursors `cs`,
-// on allpass rings with `qs`, and in memory of these lengths (R3.37).
-pub fn room_ok(
-    frame: usize,
-    ls: [usize; LINES],
-    cs: [Cursors; LINES],
-    qs: [Cursors; PASS_RINGS],
-    store: usize,
-    work: usize,
-    output: usize,
-) -> bool
-    ensures { λ r. ⌜ r ≡ roomOk wall frame ls cs qs store work output ⌝ }
+// Whether allpass rings have the unit's lengths.
+fn passes_are(ls: [usize; PASS_RINGS]) -> bool
+    ensures { λ r. ⌜ r ≡ passesAre wall ls ⌝ }
 {
+    let mut ok = true;
+    for i in 0..PASS_RINGS {
+        let l = ls[i];
+        ok = and(ok, l == PASSES[i]);
+    }
+    ok
+}
+
+// The rings of a unit. Where its frame is out of range there is no such unit, and its lines have no
+// rings.
+pub fn rings_of(s: State) -> Rings
+    ensures { λ r. ⌜ r ≡ cond (frameOk (s .frame)) (unitRings wall (ofState s)) (ringsWith wall (ofState s) (replicate (wall .lines) 0)) ⌝ }
+{
+    let lines = s.lines;
+    let passes = s.passes;
+    let lengths = lengths(s);
+    Rings {
+        lengths,
+        lines,
+        sizes: PASSES,
+        passes,
+    }
+}
+
+// Whether a frame of `frame` samples can be played on these rings, and in memory of these lengths (R3.37).
+pub fn room_ok(frame: usize, rings: Rings, store: usize, work: usize, output: usize) -> bool
+    ensures { λ r. ⌜ r ≡ roomOk wall frame rings store work output ⌝ }
+{
+    let ls = rings.lengths;
+    let cs = rings.lines;
+    let ps = rings.sizes;
+    let qs = rings.passes;
     let rows = and(work_ok(frame, work), output == frame);
     and(
         frame_ok(frame),
         and(
-            rings_hold(frame, ls),
+            and(rings_hold(frame, ls), passes_are(ps)),
             and(
-                and(cursors_in(ls, cs), passes_ok(qs)),
+                and(cursors_in(ls, cs), passes_in(ps, qs)),
                 and(is_store(ls, store), rows),
             ),
         ),

@@ -11,7 +11,7 @@ use Rattle.unit.proofs.Outcomes.{refused, let-by}
 use Rattle.judges.specs.Judges.{lentOk}
 use Rattle.judges.specs.Marks.{allDone}
 use Rattle.judges.specs.Turns.{judgedClose}
-use Rattle.judges.proofs.Fits.{due-of, room-of, lengths-are}
+use Rattle.judges.proofs.Fits.{due-of, room-of, rings-are}
 use Rattle.machine.specs.Ending.{lend}
 use Rattle.machine.proofs.Ends.{ends-refused, ends-let-by}
 use Rattle.closing.proofs.Closed.{as-ended}
@@ -30,8 +30,8 @@ returns c =
 returns-2 : tie.Need-returns-2
 returns-2 c =
     let ran = c .before .before .before .before .before .before .before in
-    let lined = ran .before .before .before .before .before .before .before in
-    let passed = lined .before in
+    let lined = ran .before .before .before .before in
+    let passed = lined .before .before in
     let tested = passed .before in
     let judged = tested .before in
     let a = judged .before .before .before .before .args in
@@ -45,7 +45,7 @@ returns-2 c =
     let room = room-of u store work output d (d .lent) in
     let g = ran .close-frame .ensures in
     ends-let-by due _ _ _ _ _ _ through
-    (as-ended (a .s) (now (a .store)) (now (a .work)) (now (a .output)) room _ (lengths-are u store work output _ room (lined .lengths .ensures)) _ _ _ _ _ (g .0) (g .1 .0) (g .1 .1 .0) (g .1 .1 .1) (c .concluded .ensures))
+    (as-ended (a .s) (now (a .store)) (now (a .work)) (now (a .output)) room _ (rings-are u store work output _ room (lined .rings-of .ensures)) _ _ _ _ _ (g .0) (g .1 .0) (g .1 .1 .0) (g .1 .1 .1) (c .concluded .ensures))
 
 pub close-spec : {M : Type 1} → statement M
 close-spec =

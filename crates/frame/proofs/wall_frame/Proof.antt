@@ -3,12 +3,10 @@ use borrow.Author.Needs.{needs}
 use denote.Ref.{now}
 use mathlib.Core.Path.{refl, ap, _∙_}
 use lib.ListN.{take}
-use Rattle.delay.specs.declared.Cursors.{Cursors}
-use Rattle.unit.specs.Model.{wall}
 use Rattle.stages.specs.Frame.{Frame, newFilters}
-use Rattle.stages.specs.Settle.{frameFinite, allMoved}
+use Rattle.stages.specs.Settle.{frameFinite}
 use Rattle.frame.specs.declared.whole.Judged.{Judged}
-use Rattle.frame.specs.Steps.{leftBy}
+use Rattle.frame.specs.Steps.{steppedOn, leftBy}
 use Rattle.frame.specs.Workers.{judgedStore, judgedOut}
 use Rattle.frame.proofs.Room.{frame-wall}
 use Rattle.frame.proofs.wall_frame.Statement.{statement}
@@ -18,7 +16,7 @@ judge-frame-requires : tie.Need-judge-frame-requires
 judge-frame-requires c κs = let p = c .before .before .before .before .before .before .pre in (p .fits, (p .out, refl))
 
 moved-on-requires : tie.Need-moved-on-requires
-moved-on-requires c κs = let p = c .before .before .before .before .before .before .before .before .before .before .before .before .before .before .pre in (p .short, p .lines, p .passes)
+moved-on-requires c κs = let p = c .before .before .before .before .before .before .before .before .before .before .before .before .before .before .pre in (p .short, p .within)
 
 returns : tie.Need-returns
 unfolding leftBy judgedStore judgedOut
@@ -27,11 +25,11 @@ returns c =
     let s = ran .before .before .before .before .before .before .before in
     let a = s .args in
     let g = ran .judge-frame .ensures in
-    let q = frame-wall (a .f) (a .tail) (a .rings .lengths) (a .rings .lines) (a .rings .passes) (a .fs) (take (a .f) (now (a .work))) (now (a .store)) (s .pre .every) in
+    let q = frame-wall (a .f) (a .tail) (a .rings) (a .fs) (take (a .f) (now (a .work))) (now (a .store)) (s .pre .every) in
     let ok = ap (λ (r : Judged). r .ok) (g .0) ∙ ap frameFinite q in
     let filters = ap (λ (r : Judged). r .filters) (g .0) ∙ ap newFilters q in (
       c .moved-on .ensures
-          ∙ (λ i. record { ok = ok i; filters = filters i; lines = allMoved (a .f) (a .rings .lengths) (a .rings .lines); passes = allMoved (a .f) (wall .passes) (a .rings .passes) }),
+          ∙ (λ i. steppedOn (a .f) (a .rings) (ok i) (filters i)),
       (
         g .1 .0 ∙ ap (λ (r : Frame). judgedStore 16 (a .f) (a .rings .lengths) (a .rings .lines) r (now (a .store))) q,
         (g .1 .1 .0, g .1 .1 .1 ∙ ap (λ (r : Frame). judgedOut r (now (a .output))) q),

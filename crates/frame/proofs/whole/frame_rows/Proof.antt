@@ -12,10 +12,10 @@ returns : tie.Need-returns
 returns c =
     let outed = c .before .before in
     let lined = outed .before .before .before .before in
-    let copied = lined .before .before .before .before .before .before .before in
+    let copied = lined .before .before .before .before .before .before .before .before in
     let s = copied .before .before .before .before .before in
     let a = s .args in
-    frame-join (a .n) (a .f) (a .factor) (a .divisor) (a .tail) (a .rings .lengths) (a .rings .lines) (a .ps) (a .rings .passes) (a .fs) _ _ (now (a .store)) (now (a .work)) _ _ _ (s .pre) (copied .copy .ensures) (search needs) (lined .play-lines .ensures) (outed .output-row .ensures)
+    frame-join (a .n) (a .f) (a .factor) (a .divisor) (a .tail) (a .rings) (a .fs) _ _ (now (a .store)) (now (a .work)) _ _ _ (s .pre) (copied .copy .ensures) (search needs) (lined .play-lines .ensures) (outed .output-row .ensures)
 
 pub frame-rows-spec : {M : Type 1} → statement M
 frame-rows-spec =

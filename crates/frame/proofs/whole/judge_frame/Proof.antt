@@ -15,7 +15,7 @@ use Rattle.frame.proofs.whole.finish_frame.Reads as finish-frame-reads
 finish-frame-requires : tie.Need-finish-frame-requires
 finish-frame-requires c κs =
     let s = c .before .before .before .before .before .before .before .before .before .before .before .before .before in
-    settle-fits _ _ _ _ (s .args .ps) _ _ _ _ (s .pre .0) (search needs) (s .pre .1 .0)
+    settle-fits _ _ (s .args .rings) _ _ _ _ (s .pre .0) (search needs) (s .pre .1 .0)
 
 -- all 51 filters are handed in
 filters-long :
@@ -37,14 +37,14 @@ returns c =
     let a = s .args in
     let e = rowed .frame-rows .ensures in
     let long = filters-long s in
-    let r = frame-run (a .n) (a .f) (a .factor) (a .divisor) (a .tail) (a .rings .lengths) (a .rings .lines) (a .ps) (a .rings .passes) (a .fs) _ (now (a .store)) (now (a .work)) _ (s .pre .0) (omega (arith, s .pre .1 .1, long)) (e .0) (e .1) in
-    let rows = length (rowed .frame-rows .last .1 .1 .1 .1 .1 .1 .1 .1 .1 .0) in
+    let r = frame-run (a .n) (a .f) (a .factor) (a .divisor) (a .tail) (a .rings) (a .fs) _ (now (a .store)) (now (a .work)) _ (s .pre .0) (omega (arith, s .pre .1 .1, long)) (e .0) (e .1) in
+    let rows = length (rowed .frame-rows .last .1 .1 .1 .1 .1 .1 .1 .1 .0) in
     let g = done .finish-frame .ensures in
     let ok = g .0 ∙ r .judged in (
       (λ i. record { ok = ok i; filters = r .filters i }),
       (
         g .1 .0 ∙ r .settled _ (r .judged),
-        (cleared-as-long _ rows (length (now (a .work))) (g .1 .1 .0) (omega (arith, rowed .frame-rows .kept .1 .1 .1 .1 .1 .1 .1 .1 .1)), g .1 .1 .1 ∙ r .given _ _ (r .judged)),
+        (cleared-as-long _ rows (length (now (a .work))) (g .1 .1 .0) (omega (arith, rowed .frame-rows .kept .1 .1 .1 .1 .1 .1 .1 .1)), g .1 .1 .1 ∙ r .given _ _ (r .judged)),
       ),
     )
 
