@@ -14,8 +14,8 @@ use Rattle.samples.specs.declared.Answer.{Answer}
 use Rattle.samples.specs.declared.Answer.the-variants.{Accepted, BadLength, BadIndex}
 use Rattle.samples.proofs.Laws.{needed, split-and}
 use Rattle.samples.proofs.Rows.{row-ends}
-use Rattle.audio_buffer.specs.Judges.{channelsOk, samplesOk, judgedThen, judgedTwo, judgedChannel}
-use Rattle.audio_buffer.specs.Layout.{column, columns, interleaved, deinterleaved, InterleavedAt, DeinterleavedAt, DeinterleavedInterleaved, InterleavedDeinterleaved}
+use Rattle.audio_buffer.specs.Judges.{channelsOk, samplesOk, judgedBufferThen, judgedTwo, judgedChannel}
+use Rattle.audio_buffer.specs.Layout.{firstOfEach, columns, interleaved, deinterleaved, InterleavedAt, DeinterleavedAt, DeinterleavedInterleaved, InterleavedDeinterleaved}
 
 -- ---- what a judgement tells
 
@@ -34,9 +34,9 @@ counts-of channels samples e =
     let short = leb-true _ _ (p .1) in
     record { some = leb-true _ _ (q .0); few = few; short = short; all = mul-le-mul few short }
 
-pub judged-of : (channels samples len : ℕ) (rest : Answer) → judgedThen channels samples len rest ≡ Accepted
+pub judged-of : (channels samples len : ℕ) (rest : Answer) → judgedBufferThen channels samples len rest ≡ Accepted
     → Counts channels samples × (len ≡ channels * samples) × (rest ≡ Accepted)
-unfolding judgedThen
+unfolding judgedBufferThen
 judged-of channels samples len rest e =
     let p = needed (channelsOk channels && samplesOk samples) BadIndex _ refl e in
     let q = needed (eqb len (channels * samples)) BadLength rest refl (p .1) in
@@ -59,7 +59,7 @@ channel-of channels samples channel len e =
 
 -- ---- layouts
 
-column-length : (row n : ℕ) (xs : List Float) → length (column row n xs) ≡ n
+column-length : (row n : ℕ) (xs : List Float) → length (firstOfEach row n xs) ≡ n
 column-length row zero xs = refl
 column-length row (suc n) xs = ap suc (column-length row n (drop row xs))
 
@@ -72,7 +72,7 @@ module _ (xs : List Float) where
   nth : {i j : ℕ} → i ≡ j → getD xs i nan ≡ getD xs j nan
   nth e = ap (λ (k : ℕ). getD xs k nan) e
 
-column-at : (row n : ℕ) (xs : List Float) (r : ℕ) → r < n → getD (column row n xs) r nan ≡ getD xs (r * row) nan
+column-at : (row n : ℕ) (xs : List Float) (r : ℕ) → r < n → getD (firstOfEach row n xs) r nan ≡ getD xs (r * row) nan
 column-at row zero xs r h = absurd (not-suc-le-zero h)
 column-at row (suc n) xs zero h = rw zero-mul
 column-at row (suc n) xs (suc r) h =
@@ -82,14 +82,14 @@ column-at row (suc n) xs (suc r) h =
 columns-at : (row n k : ℕ) (xs : List Float) (t r : ℕ) → t < k → r < n → getD (columns row n k xs) (t * n + r) nan ≡ getD xs (r * row + t) nan
 columns-at row n zero xs t r ht hr = absurd (not-suc-le-zero ht)
 columns-at row n (suc k) xs zero r ht hr =
-    let h : r < length (column row n xs) = rw column-length hr in
+    let h : r < length (firstOfEach row n xs) = rw column-length hr in
     nth (columns row n (suc k) xs) (omega (arith, zero-mul n))
-    ∙ List·getD-append (column row n xs) (columns row n k (drop 1 xs)) nan r h
+    ∙ List·getD-append (firstOfEach row n xs) (columns row n k (drop 1 xs)) nan r h
     ∙ column-at row n xs r hr
     ∙ nth xs (omega arith)
 columns-at row n (suc k) xs (suc t) r ht hr =
     nth (columns row n (suc k) xs) (omega (arith, suc-mul t n, column-length row n xs))
-    ∙ getD-append-add (column row n xs) (columns row n k (drop 1 xs)) (t * n + r) nan
+    ∙ getD-append-add (firstOfEach row n xs) (columns row n k (drop 1 xs)) (t * n + r) nan
     ∙ columns-at row n k (drop 1 xs) t r (le-of-suc-le-suc ht) hr
     ∙ getD-drop 1 xs (r * row + t) nan
     ∙ nth xs (omega arith)

@@ -16,17 +16,17 @@ samplesOk samples = leb samples 65536
 
 -- R7.10, R7.11: a slice that is to hold so many channels, before what `rest` judges. 4 for the counts comes before 3 for the length, which
 -- is no number where a count is bad (R2.5)
-unfoldable pub judgedThen : ℕ → ℕ → ℕ → Answer → Answer
-judgedThen channels samples len rest =
+unfoldable pub judgedBufferThen : ℕ → ℕ → ℕ → Answer → Answer
+judgedBufferThen channels samples len rest =
     need (channelsOk channels && samplesOk samples) BadIndex (need (eqb len (channels * samples)) BadLength rest)
 
 -- a call that is lent two buffers
 abbrev pub judgedTwo : ℕ → ℕ → ℕ → ℕ → Answer
-judgedTwo channels samples len other = judgedThen channels samples len (judgedThen channels samples other Accepted)
+judgedTwo channels samples len other = judgedBufferThen channels samples len (judgedBufferThen channels samples other Accepted)
 
 -- R7.13: the channel, 4 after 3
 abbrev pub judgedChannel : ℕ → ℕ → ℕ → ℕ → Answer
-judgedChannel channels samples channel len = judgedThen channels samples len (need (ltb channel channels) BadIndex Accepted)
+judgedChannel channels samples channel len = judgedBufferThen channels samples len (need (ltb channel channels) BadIndex Accepted)
 
 -- R7.13: of two faults the one that is judged first, at three requests
 abbrev pub ChannelOrder : Type 0

@@ -7,14 +7,14 @@ use lib.ListN.{length, getD, drop}
 use lib.Ieee.{Float, nan}
 
 -- the first sample of each of n rows, the rows `row` samples long
-abbrev pub column : ℕ → ℕ → List Float → List Float
-column row zero xs = []
-column row (suc n) xs = getD xs 0 nan ∷ column row n (drop row xs)
+abbrev pub firstOfEach : ℕ → ℕ → List Float → List Float
+firstOfEach row zero xs = []
+firstOfEach row (suc n) xs = getD xs 0 nan ∷ firstOfEach row n (drop row xs)
 
 -- k columns of n rows, one after another
 abbrev pub columns : ℕ → ℕ → ℕ → List Float → List Float
 columns row n zero xs = []
-columns row n (suc k) xs = column row n xs ++ columns row n k (drop 1 xs)
+columns row n (suc k) xs = firstOfEach row n xs ++ columns row n k (drop 1 xs)
 
 -- R7.2: interleave. There are as many frames as samples in a channel
 abbrev pub interleaved : ℕ → ℕ → List Float → List Float

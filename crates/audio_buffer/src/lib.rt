@@ -7,7 +7,7 @@ ghost use Prim.Native.Nat.{_*_};
 ghost use lib.ListN.{length, take, drop};
 ghost use Rattle.samples.specs.Answers.{accept};
 ghost use Rattle.audio_buffer.specs.Verdict.{verdictOf};
-ghost use Rattle.audio_buffer.specs.Judges.{channelsOk, judgedThen, judgedTwo, judgedChannel};
+ghost use Rattle.audio_buffer.specs.Judges.{channelsOk, judgedBufferThen, judgedTwo, judgedChannel};
 ghost use Rattle.audio_buffer.specs.Layout.{columns, interleaved, deinterleaved};
 use samples::Answer;
 use samples::Frames;
@@ -47,7 +47,7 @@ fn channels_ok(channels: usize) -> bool
 // Judges the counts, then the length of a slice that is to hold them, then what `rest`
 // says (R7.10, R7.11).
 pub fn judge_then(channels: usize, samples: usize, len: usize, rest: Answer) -> Answer
-    ensures { λ r. ⌜ r ≡ judgedThen channels samples len rest ⌝ }
+    ensures { λ r. ⌜ r ≡ judgedBufferThen channels samples len rest ⌝ }
 {
     if and(channels_ok(channels), samples <= MOST_SAMPLES) {
         need(len == channels * samples, Answer::BadLength, rest)

@@ -16,7 +16,7 @@ use Rattle.samples.specs.Sizes.{rateOk, frameOk}
 use Rattle.samples.proofs.Laws.{split-and, needed, accept-either, Rate, rate-of, Frame, frame-of}
 use Rattle.bands.specs.declared.Times.{Times}
 use Rattle.bands.specs.Times.{timeOk, timesOk, larger, largest}
-use Rattle.bands.specs.Tail.{ceiling, framesIn, judgedCount, tailCount, countOf, CountRange, NoTail}
+use Rattle.bands.specs.Tail.{ceiling, framesIn, judgedTailCount, tailCount, countOf, CountRange, NoTail}
 use Rattle.bands.proofs.Bounds.{Upto, Held, held, whole-exact, value-upto, mul-upto, div-upto, quotient-upto, whole-upto, none-of, zero-upto, lt-or-eq}
 
 -- ---- a time in range is a number up to 100
@@ -129,24 +129,24 @@ pub record Counts (t : Times) (rate frame : ℕ) : Type 0 where
   pub frames : Frame frame
   pub time : timeOk (largest t) ≡ true
 
-pub counts : (t : Times) (rate frame : ℕ) → judgedCount t rate frame ≡ Accepted → Counts t rate frame
+pub counts : (t : Times) (rate frame : ℕ) → judgedTailCount t rate frame ≡ Accepted → Counts t rate frame
 counts t rate frame e =
     let p = needed (rateOk rate && frameOk frame) BadSize _ refl e in
     let s = split-and _ _ (p .0) in
     record { rates = rate-of rate (s .0); frames = frame-of frame (s .1); time = largest-ok t (needed (timesOk t) BadTime Accepted refl (p .1) .0) }
 
-tail-upto : (t : Times) (rate frame : ℕ) → judgedCount t rate frame ≡ Accepted → tailCount t rate frame ≤ 9600000
+tail-upto : (t : Times) (rate frame : ℕ) → judgedTailCount t rate frame ≡ Accepted → tailCount t rate frame ≤ 9600000
 tail-upto t rate frame e =
     let k = counts t rate frame e in
     let h = frames-upto (largest t) rate frame (time-upto (largest t) (k .time)) (k .rates .hi) (k .frames .lo) (k .frames .hi) in
     omega (arith, ceiling-upto (framesIn (largest t) rate frame) 4800000 h)
 
 -- the count of an accepted call
-pub count-yes : (t : Times) (rate frame : ℕ) → judgedCount t rate frame ≡ Accepted → countOf t rate frame ≡ tailCount t rate frame
+pub count-yes : (t : Times) (rate frame : ℕ) → judgedTailCount t rate frame ≡ Accepted → countOf t rate frame ≡ tailCount t rate frame
 count-yes t rate frame e = rw e refl
 
 pub count-range : CountRange
-count-range t rate frame = accept-either (λ (n : ℕ). n ≤ 9600000) (judgedCount t rate frame) (tail-upto t rate frame) (λ e. omega arith)
+count-range t rate frame = accept-either (λ (n : ℕ). n ≤ 9600000) (judgedTailCount t rate frame) (tail-upto t rate frame) (λ e. omega arith)
 
 -- ---- no time, no tail
 
@@ -158,7 +158,7 @@ zero-of (fin s m e) h = zero-upto s m e 0 (nothing m e (and-l (eqb (0 * 1 * down
 
 pub no-tail : NoTail
 no-tail t rate frame z =
-    accept-either (λ (n : ℕ). n ≡ 0) (judgedCount t rate frame)
+    accept-either (λ (n : ℕ). n ≡ 0) (judgedTailCount t rate frame)
     (λ e.
     let k = counts t rate frame e in
     let zero = held 0 (omega arith) in

@@ -28,12 +28,12 @@ abbrev pub tailCount : Times → ℕ → ℕ → ℕ
 tailCount t rate frame = 2 * ceiling (framesIn (largest t) rate frame)
 
 -- R6.6: 2, then 6
-abbrev pub judgedCount : Times → ℕ → ℕ → Answer
-judgedCount t rate frame = need (rateOk rate && frameOk frame) BadSize (need (timesOk t) BadTime Accepted)
+abbrev pub judgedTailCount : Times → ℕ → ℕ → Answer
+judgedTailCount t rate frame = need (rateOk rate && frameOk frame) BadSize (need (timesOk t) BadTime Accepted)
 
 -- R6.6: the count that is given, and 0 by a refused call
 abbrev pub countOf : Times → ℕ → ℕ → ℕ
-countOf t rate frame = accept (judgedCount t rate frame) (tailCount t rate frame) 0
+countOf t rate frame = accept (judgedTailCount t rate frame) (tailCount t rate frame) 0
 
 -- R6.4: the range of the count, after every call
 abbrev pub CountRange : Type 0

@@ -8,7 +8,7 @@ ghost use Prim.Native.Nat.{_≤_};
 ghost use lib.IntN.{pos};
 ghost use Rattle.samples.specs.Sizes.{longestFrame};
 ghost use Rattle.bands.specs.Times.{timeOk, timesOk, larger, largest};
-ghost use Rattle.bands.specs.Tail.{ceiling, framesIn, judgedCount, countOf, fallen};
+ghost use Rattle.bands.specs.Tail.{ceiling, framesIn, judgedTailCount, countOf, fallen};
 use samples::Answer;
 use samples::Frames;
 use samples::and;
@@ -64,7 +64,7 @@ pub fn largest(t: Times) -> f32
 
 // How many frames the tail lasts that an input with these times leaves behind (R6.6).
 pub fn tail_count(t: Times, rate: u32, frame: usize) -> Counted
-    ensures { λ r. ⌜ r ≡ record { answer = judgedCount t rate frame; count = record { 0 = pos (countOf t rate frame) } } ⌝ }
+    ensures { λ r. ⌜ r ≡ record { answer = judgedTailCount t rate frame; count = record { 0 = pos (countOf t rate frame) } } ⌝ }
 {
     let answer = judge(t, rate, frame);
     if is_accepted(answer) {
@@ -83,7 +83,7 @@ pub fn tail_count(t: Times, rate: u32, frame: usize) -> Counted
 
 // The answer of `tail_count`.
 fn judge(t: Times, rate: u32, frame: usize) -> Answer
-    ensures { λ r. ⌜ r ≡ judgedCount t rate frame ⌝ }
+    ensures { λ r. ⌜ r ≡ judgedTailCount t rate frame ⌝ }
 {
     need(
         and(rate_ok(rate), frame_ok(frame)),

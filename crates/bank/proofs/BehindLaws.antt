@@ -8,16 +8,16 @@ use Rattle.iir.specs.Runs.{bandsOut, bandsEnd}
 use Rattle.lanes.specs.declared.four.Four.{Four}
 use Rattle.lanes.specs.declared.lanes.Lanes.{Lanes}
 use Rattle.lanes.specs.Lanes.{packed, lane, stepAll}
-use Rattle.bank.specs.Behind.{begun, behind, outs, ends, inTurn, ended}
+use Rattle.bank.specs.Behind.{firstFour, behind, outs, ends, inTurn, lastFour}
 
 -- the first four samples
 module _ (b : Bands) (x : Four) (xs : List Float) where
-  pub begun-outs : bandsOut b (inTurn x ++ xs) ≡ outs (begun b x) xs
-  unfolding bandsOut outs begun packed lane step outOf
+  pub begun-outs : bandsOut b (inTurn x ++ xs) ≡ outs (firstFour b x) xs
+  unfolding bandsOut outs firstFour packed lane step outOf
   begun-outs = refl
 
-  pub begun-ends : bandsEnd b (inTurn x ++ xs) ≡ ends (begun b x) xs
-  unfolding bandsEnd ends begun packed lane step outOf
+  pub begun-ends : bandsEnd b (inTurn x ++ xs) ≡ ends (firstFour b x) xs
+  unfolding bandsEnd ends firstFour packed lane step outOf
   begun-ends = refl
 
 -- one turn: band 2 gives a sample
@@ -32,10 +32,10 @@ module _ (l : Lanes) (x : Float) (xs : List Float) where
 
 -- none left
 module _ (l : Lanes) where
-  pub ended-outs : outs l [] ≡ inTurn (ended l .y)
-  unfolding outs ended lane step outOf
+  pub ended-outs : outs l [] ≡ inTurn (lastFour l .y)
+  unfolding outs lastFour lane step outOf
   ended-outs = refl
 
-  pub ended-ends : ends l [] ≡ ended l .b
-  unfolding ends ended lane step outOf
+  pub ended-ends : ends l [] ≡ lastFour l .b
+  unfolding ends lastFour lane step outOf
   ended-ends = refl

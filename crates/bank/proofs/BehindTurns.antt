@@ -15,7 +15,7 @@ use Rattle.lanes.specs.declared.four.Four.{Four}
 use Rattle.lanes.specs.declared.lanes.Lanes.{Lanes}
 use Rattle.bank.specs.declared.line.Last.{Last}
 use Rattle.lanes.specs.Four.{beside}
-use Rattle.bank.specs.Behind.{begun, behind, outs, ends, inTurn, ended}
+use Rattle.bank.specs.Behind.{firstFour, behind, outs, ends, inTurn, lastFour}
 use Rattle.bank.proofs.BehindLaws.{begun-outs, begun-ends, behind-outs, behind-ends, ended-outs, ended-ends}
 
 -- n samples are to be put before the last four
@@ -66,9 +66,9 @@ last-four at y xs e =
 
 -- a row whose first four samples have begun it, and whose last four are put
 pub line-done : (b : Bands) (xs₀ xs last : List Float) (l : Lanes) (r : Last) → 4 ≤ length xs₀
-    → (ends l [] ≡ ends (begun b (firsts xs₀)) (drop 4 xs₀)) × (length xs ≡ length xs₀)
-    × (take (length xs₀ - 4) xs ++ outs l [] ≡ outs (begun b (firsts xs₀)) (drop 4 xs₀))
-    → r ≡ ended l → last ≡ take (length xs - 4) xs ++ inTurn (r .y) → (r .b ≡ bandsEnd b xs₀) × (last ≡ bandsOut b xs₀)
+    → (ends l [] ≡ ends (firstFour b (firsts xs₀)) (drop 4 xs₀)) × (length xs ≡ length xs₀)
+    × (take (length xs₀ - 4) xs ++ outs l [] ≡ outs (firstFour b (firsts xs₀)) (drop 4 xs₀))
+    → r ≡ lastFour l → last ≡ take (length xs - 4) xs ++ inTurn (r .y) → (r .b ≡ bandsEnd b xs₀) × (last ≡ bandsOut b xs₀)
 line-done b xs₀ xs last l r h v er el =
     let whole = first-four xs₀ h in
     rw er (

@@ -11,7 +11,7 @@ use Rattle.samples.specs.Lists.{row}
 use Rattle.samples.proofs.Rows.{next-row}
 use Rattle.lanes.specs.declared.four.Four.{Four}
 use Rattle.lanes.specs.Four.{at}
-use Rattle.bank.specs.Tile.{column, columnPut}
+use Rattle.bank.specs.Tile.{fourAt, fourPut}
 
 -- ---- ys put one below the other, the first at b: each f further on than the one before
 
@@ -50,21 +50,21 @@ module _ (f : ℕ) where
 
 -- ---- the column of four rows
 
-pub put-length : (f t : ℕ) (rows : List Float) (y : Four) → length (columnPut f t y rows) ≡ length rows
-unfolding columnPut
+pub put-length : (f t : ℕ) (rows : List Float) (y : Four) → length (fourPut f t y rows) ≡ length rows
+unfolding fourPut
 put-length f t rows y = simp length-set refl
 
 module _ (f t : ℕ) (h : t < f) (rows : List Float) where
-  pub column-at : (k : ℕ) → k < 4 → at k (column f t rows) ≡ getD (row f k rows) t nan
-  unfolding column
+  pub column-at : (k : ℕ) → k < 4 → at k (fourAt f t rows) ≡ getD (row f k rows) t nan
+  unfolding fourAt
   column-at zero g = rw (getD-take f rows t nan h) refl
   column-at (suc zero) g = rw (getD-take f (drop f rows) t nan h, getD-drop) refl
   column-at (suc (suc zero)) g = rw (getD-take f (drop f (drop f rows)) t nan h, getD-drop, getD-drop) refl
   column-at (suc (suc (suc zero))) g = rw (getD-take f (drop f (drop f (drop f rows))) t nan h, getD-drop, getD-drop, getD-drop) refl
   column-at (suc (suc (suc (suc k)))) g = absurd (omega arith)
 
-  pub row-put : (y : Four) (k : ℕ) → k < 4 → row f k (columnPut f t y rows) ≡ set (row f k rows) t (at k y)
-  unfolding columnPut
+  pub row-put : (y : Four) (k : ℕ) → k < 4 → row f k (fourPut f t y rows) ≡ set (row f k rows) t (at k y)
+  unfolding fourPut
   row-put y k g = row-all f t h (y .v0 ∷ y .v1 ∷ y .v2 ∷ y .v3 ∷ []) k rows g ∙ ap (set (row f k rows) t) (at-list k g)
     where
       at-list : (k : ℕ) → k < 4 → getD (y .v0 ∷ y .v1 ∷ y .v2 ∷ y .v3 ∷ []) k nan ≡ at k y
@@ -74,6 +74,6 @@ module _ (f t : ℕ) (h : t < f) (rows : List Float) where
       at-list (suc (suc (suc zero))) g = refl
       at-list (suc (suc (suc (suc k)))) g = absurd (omega arith)
 
-  pub rest-put : (y : Four) → drop (4 * f) (columnPut f t y rows) ≡ drop (4 * f) rows
-  unfolding columnPut
+  pub rest-put : (y : Four) → drop (4 * f) (fourPut f t y rows) ≡ drop (4 * f) rows
+  unfolding fourPut
   rest-put y = rest-all f t h (y .v0 ∷ y .v1 ∷ y .v2 ∷ y .v3 ∷ []) rows

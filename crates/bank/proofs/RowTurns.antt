@@ -15,8 +15,8 @@ use Rattle.samples.proofs.Rows.{next-row, row-long}
 use Rattle.iir.specs.declared.Bands.{Bands}
 use Rattle.iir.specs.Runs.{bandsOut, bandsEnd}
 use Rattle.iir.proofs.Laws.{bands-length, bands-append, bands-end-append}
-use Rattle.lanes.specs.declared.bank.Bank.{Bank}
-use Rattle.lanes.specs.Bank.{bandsAt}
+use Rattle.lanes.specs.declared.band_lanes.BandLanes.{BandLanes}
+use Rattle.lanes.specs.BandLanes.{bandsAt}
 use Rattle.bank.specs.Lines.{linesOut, linesEnd}
 use Rattle.bank.specs.Tile.{lined, Turned}
 
@@ -47,14 +47,14 @@ module _ (f : ℕ) where
 
 -- ---- four rows, by the bands b
 
-module _ (f : ℕ) (b : Bank) (rows₀ : List Float) where
+module _ (f : ℕ) (b : BandLanes) (rows₀ : List Float) where
   -- line k: its samples before t have gone through, and its bands with those from t on give the answer
-  abbrev Line : ℕ → ℕ → Bank → List Float → Type 0
+  abbrev Line : ℕ → ℕ → BandLanes → List Float → Type 0
   Line k t g rows =
       (take t (row f k rows) ++ bandsOut (bandsAt k g) (drop t (row f k rows)) ≡ bandsOut (bandsAt k b) (row f k rows₀))
       × (bandsEnd (bandsAt k g) (drop t (row f k rows)) ≡ bandsEnd (bandsAt k b) (row f k rows₀))
 
-  abbrev pub Running : ℕ → Bank → List Float → Type 0
+  abbrev pub Running : ℕ → BandLanes → List Float → Type 0
   Running t g rows =
       (t ≤ f) × (length rows ≡ length rows₀) × (4 * f ≤ length rows₀) × (drop (4 * f) rows ≡ drop (4 * f) rows₀)
       × ((k : ℕ) → k < 4 → Line k t g rows)
@@ -62,8 +62,8 @@ module _ (f : ℕ) (b : Bank) (rows₀ : List Float) where
   pub none-run : 4 * f ≤ length rows₀ → Running 0 b rows₀
   none-run h = (omega arith, refl, h, refl, λ k g. (refl, refl))
 
-  module _ (t : ℕ) (g : Bank) (rows : List Float) (v : Running t g rows) where
-    pub some-run : (m : ℕ) (h : Bank) (last : List Float) → t + m ≤ f → Turned f t m g h rows last → Running (t + m) h last
+  module _ (t : ℕ) (g : BandLanes) (rows : List Float) (v : Running t g rows) where
+    pub some-run : (m : ℕ) (h : BandLanes) (last : List Float) → t + m ≤ f → Turned f t m g h rows last → Running (t + m) h last
     some-run m h last room e = (room, e .2 ∙ v .1, v .2, e .1 ∙ v .3, line)
       where
         line : (k : ℕ) → k < 4 → Line k (t + m) h last

@@ -14,44 +14,44 @@ use Rattle.samples.proofs.Lists.{part-long, over-stored}
 use Rattle.samples.proofs.Rows.{row-long}
 use Rattle.iir.specs.Runs.{bandsOut, bandsEnd}
 use Rattle.lanes.specs.declared.four.Four.{Four}
-use Rattle.lanes.specs.declared.bank.Bank.{Bank}
+use Rattle.lanes.specs.declared.band_lanes.BandLanes.{BandLanes}
 use Rattle.lanes.specs.Four.{at}
-use Rattle.lanes.specs.Bank.{bandsAt, stepBank}
+use Rattle.lanes.specs.BandLanes.{bandsAt, stepBands}
 use Rattle.lanes.proofs.LaneLaws.{bank-out, bank-end}
-use Rattle.bank.specs.Tile.{column, columnPut, tileColumn, tilePut, strand, Filled, Stored, Played}
+use Rattle.bank.specs.Tile.{fourAt, fourPut, tileColumn, tilePut, strand, Filled, Stored, Played}
 use Rattle.bank.proofs.ColumnLaws.{column-at, put-length, row-put, rest-put}
 use Rattle.bank.proofs.TileLaws.{strand-long, tile-at, strand-put, put-long}
 
 -- ---- the columns through the bands b
 
-module _ (m : ℕ) (b : Bank) (tile₀ : List Float) where
+module _ (m : ℕ) (b : BandLanes) (tile₀ : List Float) where
   -- line k: its samples before column j have gone through, and its bands with those from j on give the answer
-  abbrev Line : ℕ → ℕ → Bank → List Float → Type 0
+  abbrev Line : ℕ → ℕ → BandLanes → List Float → Type 0
   Line k j g tile =
       (take j (strand k m tile) ++ bandsOut (bandsAt k g) (drop j (strand k m tile)) ≡ bandsOut (bandsAt k b) (strand k m tile₀))
       × (bandsEnd (bandsAt k g) (drop j (strand k m tile)) ≡ bandsEnd (bandsAt k b) (strand k m tile₀))
 
-  abbrev pub Playing : ℕ → Bank → List Float → Type 0
+  abbrev pub Playing : ℕ → BandLanes → List Float → Type 0
   Playing j g tile = (j ≤ m) × (length tile ≡ length tile₀) × (4 * m ≤ length tile₀) × ((k : ℕ) → k < 4 → Line k j g tile)
 
   pub none-played : 4 * m ≤ length tile₀ → Playing 0 b tile₀
   none-played h = (omega arith, refl, h, λ k g. (refl, refl))
 
-  module _ (j : ℕ) (g : Bank) (tile : List Float) (v : Playing j g tile) where
-    pub one-played : (h : Bank) (last : List Float) → j < m → h ≡ stepBank g (tileColumn j tile) → last ≡ tilePut j (h .l2 .y1) tile
+  module _ (j : ℕ) (g : BandLanes) (tile : List Float) (v : Playing j g tile) where
+    pub one-played : (h : BandLanes) (last : List Float) → j < m → h ≡ stepBands g (tileColumn j tile) → last ≡ tilePut j (h .l2 .y1) tile
         → Playing (j + 1) h last
-    one-played h last lt eh el = rw (el, eh) (omega arith, put-long j (stepBank g x .l2 .y1) tile ∙ v .1, v .2, line)
+    one-played h last lt eh el = rw (el, eh) (omega arith, put-long j (stepBands g x .l2 .y1) tile ∙ v .1, v .2, line)
       where
         x : Four
         x = tileColumn j tile
 
-        line : (k : ℕ) → k < 4 → Line k (j + 1) (stepBank g x) (tilePut j (stepBank g x .l2 .y1) tile)
+        line : (k : ℕ) → k < 4 → Line k (j + 1) (stepBands g x) (tilePut j (stepBands g x .l2 .y1) tile)
         line k hk =
             let r = strand k m tile in
-            let y = at k (stepBank g x .l2 .y1) in
+            let y = at k (stepBands g x .l2 .y1) in
             let in-row : j < length r = omega (arith, strand-long k m tile) in
             let e : drop j r ≡ at k x ∷ drop (j + 1) (set r j y) = rw (tile-at m j lt tile k hk) (front r j nan in-row y) in
-            rw (strand-put m j lt tile (stepBank g x .l2 .y1) (omega (arith, v .1, v .2)) k hk) (
+            rw (strand-put m j lt tile (stepBands g x .l2 .y1) (omega (arith, v .1, v .2)) k hk) (
               stored r j nan in-row y (bank-out k g x e) ∙ v .3 k hk .0,
               sym (bank-end k g x e) ∙ v .3 k hk .1,
             )
@@ -78,11 +78,11 @@ module _ (f t m : ℕ) (rows : List Float) (tile₀ : List Float) where
     whole : (k : ℕ) → k < 4 → length (part k) ≡ m
     whole k hk = part-long t (row f k rows) m (omega (arith, row-long f 4 k rows hk long))
 
-    pub one-filled : (j : ℕ) (tile last : List Float) → Filling j tile → j < m → last ≡ tilePut j (column f (t + j) rows) tile → Filling (j + 1) last
+    pub one-filled : (j : ℕ) (tile last : List Float) → Filling j tile → j < m → last ≡ tilePut j (fourAt f (t + j) rows) tile → Filling (j + 1) last
     one-filled j tile last v lt el = rw el (omega arith, put-long j x tile ∙ v .1, line)
       where
         x : Four
-        x = column f (t + j) rows
+        x = fourAt f (t + j) rows
 
         line : (k : ℕ) → k < 4 → take (j + 1) (strand k m (tilePut j x tile)) ≡ take (j + 1) (part k)
         line k hk =
@@ -112,14 +112,14 @@ module _ (f t m : ℕ) (tile rows₀ : List Float) where
       × ((k : ℕ) → k < 4 → row f k rows ≡ over t (take j (strand k m tile)) (row f k rows₀))
 
   module _ (room : t + m ≤ f) (long : 4 * f ≤ length rows₀) where
-    pub one-stored : (j : ℕ) (rows last : List Float) → Storing j rows → j < m → last ≡ columnPut f (t + j) (tileColumn j tile) rows → Storing (j + 1) last
+    pub one-stored : (j : ℕ) (rows last : List Float) → Storing j rows → j < m → last ≡ fourPut f (t + j) (tileColumn j tile) rows → Storing (j + 1) last
     one-stored j rows last v lt el =
         rw el (omega arith, put-length f (t + j) rows y ∙ v .1, rest-put f (t + j) (omega arith) rows y ∙ v .2, line)
       where
         y : Four
         y = tileColumn j tile
 
-        line : (k : ℕ) → k < 4 → row f k (columnPut f (t + j) y rows) ≡ over t (take (j + 1) (strand k m tile)) (row f k rows₀)
+        line : (k : ℕ) → k < 4 → row f k (fourPut f (t + j) y rows) ≡ over t (take (j + 1) (strand k m tile)) (row f k rows₀)
         line k hk =
             let ys = strand k m tile in
             let in-tile : j < length ys = omega (arith, strand-long k m tile) in

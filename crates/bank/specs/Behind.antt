@@ -13,8 +13,8 @@ use Rattle.lanes.specs.Four.{beside}
 use Rattle.lanes.specs.Lanes.{packed, lane, stepAll}
 
 -- after the first four samples: band 0 has taken all of them, band 1 two, and band 2 none; the fourth place is idle
-unfoldable pub begun : Bands → Four → Lanes
-begun b x =
+unfoldable pub firstFour : Bands → Four → Lanes
+firstFour b x =
     let f0 = step (b .f0) (x .v0) in
     let f1 = step f0 (x .v1) in
     packed (step (step f1 (x .v2)) (x .v3)) (step (step (b .f1) (f0 .y1)) (f1 .y1)) (b .f2) (fromCoefficients +0 +0 +0 +0 +0)
@@ -47,8 +47,8 @@ abbrev pub inTurn : Four → List Float
 inTurn y = y .v0 ∷ y .v1 ∷ y .v2 ∷ y .v3 ∷ []
 
 -- with none left: the last four samples, and the bands
-unfoldable pub ended : Lanes → Last
-ended l =
+unfoldable pub lastFour : Lanes → Last
+lastFour l =
     let g0 = step (lane 1 l) (l .y2 .v0) in
     let g1 = step g0 (l .y1 .v0) in
     let h0 = step (lane 2 l) (l .y2 .v1) in

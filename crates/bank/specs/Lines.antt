@@ -5,7 +5,7 @@ use lib.Ieee.{Float}
 use lib.ListN.{take, drop}
 use Rattle.iir.specs.declared.Bands.{Bands}
 use Rattle.iir.specs.Runs.{bandsOut, bandsEnd}
-use Rattle.lanes.specs.declared.bank.FourBands.{FourBands}
+use Rattle.lanes.specs.declared.band_lanes.FourBands.{FourBands}
 
 -- the bands of four lines in their order
 abbrev pub lines : FourBands → List Bands

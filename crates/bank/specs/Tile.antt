@@ -8,16 +8,16 @@ use Rattle.samples.specs.Lists.{over, row}
 use Rattle.iir.specs.declared.Bands.{Bands}
 use Rattle.iir.specs.Runs.{bandsOut, bandsEnd}
 use Rattle.lanes.specs.declared.four.Four.{Four}
-use Rattle.lanes.specs.declared.bank.Bank.{Bank}
-use Rattle.lanes.specs.Bank.{bandsAt}
+use Rattle.lanes.specs.declared.band_lanes.BandLanes.{BandLanes}
+use Rattle.lanes.specs.BandLanes.{bandsAt}
 
 -- sample t of each of four rows of f samples, and the rows with others there
-unfoldable pub column : ℕ → ℕ → List Float → Four
-column f t rows =
+unfoldable pub fourAt : ℕ → ℕ → List Float → Four
+fourAt f t rows =
     record { v0 = getD rows t nan; v1 = getD rows (f + t) nan; v2 = getD rows (f + (f + t)) nan; v3 = getD rows (f + (f + (f + t))) nan }
 
-unfoldable pub columnPut : ℕ → ℕ → Four → List Float → List Float
-columnPut f t y rows =
+unfoldable pub fourPut : ℕ → ℕ → Four → List Float → List Float
+fourPut f t y rows =
     set (set (set (set rows t (y .v0)) (f + t) (y .v1)) (f + (f + t)) (y .v2)) (f + (f + (f + t))) (y .v3)
 
 -- column j of a tile, and the tile with another there
@@ -51,13 +51,13 @@ Stored f t m tile rows last =
     × (length last ≡ length rows)
 
 -- m samples have gone through its bands: from b to g, from the tile to the last
-abbrev pub Played : ℕ → Bank → Bank → List Float → List Float → Type 0
+abbrev pub Played : ℕ → BandLanes → BandLanes → List Float → List Float → Type 0
 Played m b g tile last =
     (k : ℕ) → k < 4
     → (strand k m last ≡ bandsOut (bandsAt k b) (strand k m tile)) × (bandsAt k g ≡ bandsEnd (bandsAt k b) (strand k m tile))
 
 -- its row holds, from t on, what its bands g make of the m samples there; h are the bands after them
-abbrev pub Turned : ℕ → ℕ → ℕ → Bank → Bank → List Float → List Float → Type 0
+abbrev pub Turned : ℕ → ℕ → ℕ → BandLanes → BandLanes → List Float → List Float → Type 0
 Turned f t m g h rows last =
     ((k : ℕ) → k < 4
     → let xs = take m (drop t (row f k rows)) in

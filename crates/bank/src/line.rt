@@ -13,7 +13,7 @@ ghost use mathlib.Core.List.{[], _++_};
 ghost use Prim.Native.Nat.{_-_, _≤_};
 ghost use lib.ListN.{length, take, drop};
 ghost use Rattle.iir.specs.Runs.{bandsOut, bandsEnd};
-ghost use Rattle.bank.specs.Behind.{begun, behind, ended, outs, ends, inTurn};
+ghost use Rattle.bank.specs.Behind.{firstFour, behind, lastFour, outs, ends, inTurn};
 
 // The last samples of a row, and the bands after it.
 pub struct Last {
@@ -24,7 +24,7 @@ pub struct Last {
 // The bands after a row's first four samples: band 0 has taken all of them, band 1 two, and band 2
 // none. The fourth place is idle: its numbers are all +0 and stay so.
 fn begin(b: Bands, x: Four) -> Lanes
-    ensures { λ r. ⌜ r ≡ begun b x ⌝ }
+    ensures { λ r. ⌜ r ≡ firstFour b x ⌝ }
 {
     let f0 = filtered(b.f0, x.v0);
     let f1 = filtered(f0, x.v1);
@@ -53,7 +53,7 @@ fn stagger(l: Lanes, x: f32) -> Lanes
 
 // The bands after they have taken what is left of a row, and its last four samples.
 fn end(l: Lanes) -> Last
-    ensures { λ r. ⌜ r ≡ ended l ⌝ }
+    ensures { λ r. ⌜ r ≡ lastFour l ⌝ }
 {
     let y1 = l.y1;
     let y2 = l.y2;

@@ -1,18 +1,18 @@
 // A tile: samples of four rows as columns, those of one time side by side, as the bands take them.
-use lanes::Bank;
+use lanes::BandLanes;
 use lanes::Four;
-use lanes::step_bank;
+use lanes::step_bands;
 ghost use mathlib.Core.Path.{_≡_};
 ghost use Prim.Native.Nat.{_+_, _*_, _<_, _≤_};
 ghost use lib.ListN.{length};
-ghost use Rattle.lanes.specs.Bank.{bandsAt, stepBank};
+ghost use Rattle.lanes.specs.BandLanes.{bandsAt, stepBands};
 ghost use Rattle.bank.specs.Lines.{linesOut, linesEnd};
-ghost use Rattle.bank.specs.Tile.{column, columnPut, tileColumn, tilePut, lined, Filled, Stored, Played, Turned};
+ghost use Rattle.bank.specs.Tile.{fourAt, fourPut, tileColumn, tilePut, lined, Filled, Stored, Played, Turned};
 
 // Sample t of each of four rows of f samples.
 fn row_column(f: usize, t: usize, rows: &[f32]) -> Four
     requires { ⌜ (t < f) × (4 * f ≤ length (now rows)) ⌝ }
-    ensures { λ r. ⌜ r ≡ column f t (now (rows .entry)) ⌝ }
+    ensures { λ r. ⌜ r ≡ fourAt f t (now (rows .entry)) ⌝ }
 {
     let t1 = f + t;
     let t2 = f + t1;
@@ -28,7 +28,7 @@ fn row_column(f: usize, t: usize, rows: &[f32]) -> Four
 // Puts sample t of each of four rows of f samples.
 fn put_column(f: usize, t: usize, y: Four, rows: &mut [f32])
     requires { ⌜ (t < f) × (4 * f ≤ length (now rows)) ⌝ }
-    ensures { λ _. ⌜ now (rows .exit) ≡ columnPut f t y (now (rows .entry)) ⌝ }
+    ensures { λ _. ⌜ now (rows .exit) ≡ fourPut f t y (now (rows .entry)) ⌝ }
 {
     let t1 = f + t;
     let t2 = f + t1;
@@ -66,19 +66,19 @@ fn set_column(j: usize, y: Four, tile: &mut [f32])
 }
 
 // Column j of a tile through the bands, in place.
-fn turn(j: usize, g: Bank, tile: &mut [f32]) -> Bank
+fn turn(j: usize, g: BandLanes, tile: &mut [f32]) -> BandLanes
     requires { ⌜ 4 * j + 3 < length (now tile) ⌝ }
-    ensures { λ r. ⌜ r ≡ stepBank g (tileColumn j (now (tile .entry))) ⌝ }
+    ensures { λ r. ⌜ r ≡ stepBands g (tileColumn j (now (tile .entry))) ⌝ }
     ensures { λ r. ⌜ now (tile .exit) ≡ tilePut j (r .l2 .y1) (now (tile .entry)) ⌝ }
 {
-    let h = step_bank(g, tile_column(j, tile));
+    let h = step_bands(g, tile_column(j, tile));
     let l = h.l2;
     set_column(j, l.y1, tile);
     h
 }
 
 // The first m columns of a tile through the bands, in place.
-fn run(m: usize, b: Bank, tile: &mut [f32]) -> Bank
+fn run(m: usize, b: BandLanes, tile: &mut [f32]) -> BandLanes
     requires { ⌜ 4 * m ≤ length (now tile) ⌝ }
     ensures { λ r. ⌜ Played m b r (now (tile .entry)) (now (tile .exit)) ⌝ }
 {
@@ -110,7 +110,14 @@ fn store(f: usize, t: usize, m: usize, tile: &[f32], rows: &mut [f32])
 }
 
 // The next m samples of four rows of f, from t on, through the bands, in place.
-fn some_columns(f: usize, t: usize, m: usize, g: Bank, rows: &mut [f32], tile: &mut [f32]) -> Bank
+fn some_columns(
+    f: usize,
+    t: usize,
+    m: usize,
+    g: BandLanes,
+    rows: &mut [f32],
+    tile: &mut [f32],
+) -> BandLanes
     requires { ⌜ (t + m ≤ f) × (4 * f ≤ length (now rows)) × (4 * m ≤ length (now tile)) ⌝ }
     ensures { λ r. ⌜ Turned f t m g r (now (rows .entry)) (now (rows .exit)) ⌝ }
 {
@@ -129,7 +136,7 @@ fn tile_of(left: usize) -> usize
 }
 
 // Four rows of f samples through the bands, in place. What lies after them stays.
-pub(crate) fn run_rows(f: usize, b: Bank, rows: &mut [f32]) -> Bank
+pub(crate) fn run_rows(f: usize, b: BandLanes, rows: &mut [f32]) -> BandLanes
     requires { ⌜ 4 * f ≤ length (now rows) ⌝ }
     ensures { λ r. ⌜ lined (λ k. bandsAt k r) ≡ linesEnd f (lined (λ k. bandsAt k b)) (now (rows .entry)) ⌝ }
     ensures { λ _. ⌜ now (rows .exit) ≡ linesOut f (lined (λ k. bandsAt k b)) (now (rows .entry)) ⌝ }

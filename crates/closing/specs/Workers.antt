@@ -19,8 +19,8 @@ abbrev pub idle : UnitState → RingCursors → ℤ → List Filter → UnitStat
 idle u cursors count filters = record { settings = u .settings; cursors = cursors; count = count; filters = filters; held = noFrame wall }
 
 -- R5.23 to R5.26: 9 unless all that a frame came to is finite
-abbrev pub concluded : UnitState → Stepped → Outcome
-concluded u x =
+abbrev pub closedBy : UnitState → Stepped → Outcome
+closedBy u x =
     cond (x .ok)
     (outcome Accepted (idle u (record { lines = x .lines; passes = x .passes }) (u .held .next) (x .filters)) (verdictOf (u .held .next)))
     (outcome NotFinite (unitShut wall u) TailComplete)

@@ -16,7 +16,7 @@ ghost use mathlib.Core.Path.{_≡_};
 ghost use Rattle.unit.specs.UnitState.{ofState, toState};
 ghost use Rattle.unit.specs.Model.{wall};
 ghost use Rattle.machine.specs.Jobs.{unitShut};
-ghost use Rattle.closing.specs.Workers.{idle, concluded};
+ghost use Rattle.closing.specs.Workers.{idle, closedBy};
 
 // The unit with no frame open, and other cursors, filters and another count.
 pub(crate) fn idle(
@@ -51,7 +51,7 @@ pub(crate) fn shut(s: State) -> State
 
 // The outcome of a frame that nothing else refuses: 9 unless all of it is finite.
 pub(crate) fn concluded(s: State, frame: Stepped) -> Outcome
-    ensures { λ r. ⌜ r ≡ concluded (ofState s) frame ⌝ }
+    ensures { λ r. ⌜ r ≡ closedBy (ofState s) frame ⌝ }
 {
     if !frame.ok {
         return quiet(Answer::NotFinite, shut(s));

@@ -17,13 +17,13 @@ use unit::rings_of;
 ghost use mathlib.Core.Path.{_≡_};
 ghost use mathlib.Core.List.{[]};
 ghost use Rattle.unit.specs.Model.{wall};
-ghost use Rattle.machine.specs.Ending.{lend, given};
+ghost use Rattle.machine.specs.Ending.{lend, outcomeOf};
 ghost use Rattle.machine.specs.Jobs.{closed, abandoned};
 
 // Ends a frame of which every job is done: puts its rows into the lines, writes the output, moves the
 // cursors and sets the count, unless a number of it isn't finite (R2.30, R5.20 to R5.27).
 pub fn close(s: State, store: &mut [f32], work: &mut [f32], output: &mut [f32]) -> Outcome
-    ensures { λ r. ⌜ r ≡ given (closed wall (lend s (now (store .entry)) (now (work .entry))) (now (output .entry))) ⌝ }
+    ensures { λ r. ⌜ r ≡ outcomeOf (closed wall (lend s (now (store .entry)) (now (work .entry))) (now (output .entry))) ⌝ }
     ensures { λ _. ⌜ now (store .exit) ≡ closed wall (lend s (now (store .entry)) (now (work .entry))) (now (output .entry)) .memory .store ⌝ }
     ensures { λ _. ⌜ now (work .exit) ≡ closed wall (lend s (now (store .entry)) (now (work .entry))) (now (output .entry)) .memory .work ⌝ }
     ensures { λ _. ⌜ now (output .exit) ≡ closed wall (lend s (now (store .entry)) (now (work .entry))) (now (output .entry)) .output ⌝ }
@@ -40,7 +40,7 @@ pub fn close(s: State, store: &mut [f32], work: &mut [f32], output: &mut [f32]) 
 
 // Gives an open frame up: the unit is as it was before, and the work memory is cleared (R2.31, R5.28).
 pub fn abandon(s: State, work: &mut [f32]) -> Outcome
-    ensures { λ r. ⌜ r ≡ given (abandoned wall (lend s [] (now (work .entry)))) ⌝ }
+    ensures { λ r. ⌜ r ≡ outcomeOf (abandoned wall (lend s [] (now (work .entry)))) ⌝ }
     ensures { λ _. ⌜ now (work .exit) ≡ abandoned wall (lend s [] (now (work .entry))) .memory .work ⌝ }
 {
     let answer = judge_abandon(s, work.len());

@@ -13,7 +13,7 @@ use Rattle.samples.proofs.Laws.{needed, split-and}
 use Rattle.delay.specs.declared.Cursors.{Cursors}
 use Rattle.delay.specs.declared.Four.{Four}
 use Rattle.delay.specs.Ring.{rotl, wrap, read, write, readEach, listOf}
-use Rattle.delay.specs.Calls.{lengthOk, cursorsOk, countOk, judgedLength, judgedThen, judgedRing, judgedCount, both, readTo, writeTo}
+use Rattle.delay.specs.Calls.{lengthOk, cursorsOk, countOk, judgedLength, judgedRingThen, judgedRing, judgedCount, both, readTo, writeTo}
 use Rattle.delay.specs.Calls.{freshAnswer, freshRing, resetAnswer, resetRing, getAnswer, getOut, putAnswer, putRing, get4Answer, put4Answer, put4Ring}
 -- `demands` cites it from here
 pub use Rattle.samples.proofs.Laws.{accept-either}
@@ -35,7 +35,7 @@ pub record Moves (l : ℕ) (c : Cursors) (n : ℕ) : Type 0 where
   pub some : 1 ≤ n
   pub fits : n ≤ l
 
-ready-of : (l : ℕ) (c : Cursors) (rest : Answer) → judgedThen l c rest ≡ Accepted → Ready l c × (rest ≡ Accepted)
+ready-of : (l : ℕ) (c : Cursors) (rest : Answer) → judgedRingThen l c rest ≡ Accepted → Ready l c × (rest ≡ Accepted)
 unfolding lengthOk cursorsOk
 ready-of l c rest e =
     let p = needed _ BadLength _ refl e in
@@ -51,7 +51,7 @@ ready-of l c rest e =
       q .1,
     )
 
-ready-rest : (l : ℕ) (c : Cursors) (rest : Answer) → Ready l c → judgedThen l c rest ≡ rest
+ready-rest : (l : ℕ) (c : Cursors) (rest : Answer) → Ready l c → judgedRingThen l c rest ≡ rest
 unfolding lengthOk cursorsOk
 ready-rest l c rest r =
     rw (le-leb 1 l (r .some), le-leb l 65536 (r .small), lt-ltb (c .read .0) l (r .reads), lt-ltb (c .write .0) l (r .writes)) refl

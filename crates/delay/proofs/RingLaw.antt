@@ -22,32 +22,32 @@ use Rattle.delay.specs.declared.Cursors.{Cursors}
 use Rattle.delay.specs.declared.RingAnswer.{RingAnswer}
 use Rattle.delay.specs.Ring.{rotl, wrap, read, write, ahead}
 use Rattle.delay.specs.Calls.{lengthOk, judgedCount, judgedRing, both, readTo, writeTo}
-use Rattle.delay.specs.RingLaw.{Get, getN, get4, Put, putN, put4, Turn, count, samples, Each, gotten, afterGet, ringAfter, afterPut, gets, given, RingLaw, RingSample, CursorBelow, Equal, CursorsTogether}
+use Rattle.delay.specs.RingLaw.{Get, getN, get4, Put, putN, put4, Turn, getSize, putSamples, Each, gotten, afterGet, ringAfter, afterPut, gets, allPut, RingLaw, RingSample, CursorBelow, Equal, CursorsStayEqual}
 use Rattle.delay.proofs.Views.{wrap-less, ahead-less, length-rotl, rotl-same, length-write, turn-view, take-on}
 use Rattle.delay.proofs.Laws.{Ready, Moves, judged-ok, ok-judged, count-ok, ok-count, ready-read, fresh-ok, reset-ok, get-ok, put-ok, get4-ok, put4-ok}
 
 -- ---- a get of n samples and one of four, and so with a put, do the same on a ring that has as many
 
-got-ok : (ring : List Float) (c : Cursors) (g : Get) → Moves (length ring) c (count g)
-    → (afterGet ring c g ≡ readTo c (wrap (length ring) (c .read .0 + count g))) × (gotten ring c g ≡ take (count g) (rotl (c .read .0) ring))
+got-ok : (ring : List Float) (c : Cursors) (g : Get) → Moves (length ring) c (getSize g)
+    → (afterGet ring c g ≡ readTo c (wrap (length ring) (c .read .0 + getSize g))) × (gotten ring c g ≡ take (getSize g) (rotl (c .read .0) ring))
 unfolding read
 got-ok ring c (getN out) m = let e = get-ok ring out c m in (ap (λ (r : RingAnswer). r .cursors) (e .0), e .1)
 got-ok ring c get4 m = let e = get4-ok ring c (m .ready) (m .fits) in (e .1, e .2)
 
-put-in : (ring : List Float) (c : Cursors) (p : Put) → Moves (length ring) c (length (samples p))
-    → (afterPut (length ring) c p ≡ writeTo c (wrap (length ring) (c .write .0 + length (samples p))))
-    × (ringAfter ring c p ≡ write ring (c .write .0) (samples p))
+put-in : (ring : List Float) (c : Cursors) (p : Put) → Moves (length ring) c (length (putSamples p))
+    → (afterPut (length ring) c p ≡ writeTo c (wrap (length ring) (c .write .0 + length (putSamples p))))
+    × (ringAfter ring c p ≡ write ring (c .write .0) (putSamples p))
 put-in ring c (putN xs) m = let e = put-ok ring xs c m in (ap (λ (r : RingAnswer). r .cursors) (e .0), e .1)
 put-in ring c (put4 x) m = let e = put4-ok ring c x (m .ready) (m .fits) in (ap (λ (r : RingAnswer). r .cursors) (e .0), e .1)
 
 -- from any ring, with the cursors equal: the invariant of the turns
 gets-view : (ring : List Float) (k : ℕ) (ts : List Turn) → length ring ≤ 65536 → k < length ring → Each (length ring) ts
-    → flatten (gets ring (both k) ts) ≡ take (length (given ts)) (rotl k ring ++ given ts)
+    → flatten (gets ring (both k) ts) ≡ take (length (allPut ts)) (rotl k ring ++ allPut ts)
 unfolding gets flatten
 gets-view ring k [] s h each = refl
 gets-view ring k (t ∷ ts) s h each =
     let l : ℕ = length ring in
-    let xs : List Float = samples (t .put) in
+    let xs : List Float = putSamples (t .put) in
     let n : ℕ = length xs in
     let k′ : ℕ = wrap l (k + n) in
     let b : k′ < l = wrap-less l (k + n) (omega (arith, each .2)) in
@@ -56,13 +56,13 @@ gets-view ring k (t ∷ ts) s h each =
     let r : Ready l (both k) = record { some = omega arith; small = s; reads = h; writes = h } in
     let g = rw (each .0) at (got-ok ring (both k) (t .get) (rw (each .0) (record { ready = r; some = each .1; fits = each .2 }))) in
     let p = put-in ring (readTo (both k) k′) (t .put) (record { ready = ready-read r b; some = each .1; fits = each .2 }) in
-    let later : flatten (gets ring′ (both k′) ts) ≡ take (length (given ts)) (rotl k′ ring′ ++ given ts) = gets-view ring′ k′ ts (omega arith) (omega arith) (rw lr (each .3)) in
+    let later : flatten (gets ring′ (both k′) ts) ≡ take (length (allPut ts)) (rotl k′ ring′ ++ allPut ts) = gets-view ring′ k′ ts (omega arith) (omega arith) (rw lr (each .3)) in
     let lv : n ≤ length (rotl k ring) = simp length-rotl (each .2) in
-    rw (g .0, g .1, p .0, p .1, later, turn-view ring xs k h (each .2), length-append) (take-on (rotl k ring) xs (given ts) (length (given ts)) lv)
+    rw (g .0, g .1, p .0, p .1, later, turn-view ring xs k h (each .2), length-append) (take-on (rotl k ring) xs (allPut ts) (length (allPut ts)) lv)
 
 -- from a silent one
 from-zeros : (l k : ℕ) (ts : List Turn) → l ≤ 65536 → k < l → Each l ts
-    → flatten (gets (replicate l +0) (both k) ts) ≡ take (length (given ts)) (replicate l +0 ++ given ts)
+    → flatten (gets (replicate l +0) (both k) ts) ≡ take (length (allPut ts)) (replicate l +0 ++ allPut ts)
 from-zeros l k ts s h each =
     let lr : length (replicate l +0) ≡ l = length-replicate l +0 in
     gets-view (replicate l +0) k ts (omega arith) (omega arith) (rw lr each) ∙ rw (rotl-same l k +0 (omega arith)) refl
@@ -93,7 +93,7 @@ delayed l t xs out e b =
 pub ring-sample : RingSample
 ring-sample ring ts h s each =
     let all = ring-law ring ts h s each in
-    (λ t b. delayed (length ring) t (given ts) _ (all .0) b, λ c q k t b. delayed (length ring) t (given ts) _ (all .1 c q k) b)
+    (λ t b. delayed (length ring) t (allPut ts) _ (all .0) b, λ c q k t b. delayed (length ring) t (allPut ts) _ (all .1 c q k) b)
 
 pub cursor-below : CursorBelow
 unfolding lengthOk
@@ -116,8 +116,8 @@ together judged f c q again =
     (λ e. rw (again e) (ap (λ (x : Samples). record { 0 = f (x .0) }) q))
     (λ e. rw (accept-no (judged c) (writeTo c (f (c .write .0))) c e) q)
 
-pub cursors-together : CursorsTogether
-cursors-together = record {
+pub cursors-stay-equal : CursorsStayEqual
+cursors-stay-equal = record {
   turn = λ l c n q. together (λ x. judgedCount l x n) (λ k. wrap l (k + n)) c q
       (λ e. let m = count-ok l c n e in
       ok-count l _ n (record { ready = ready-read (m .ready) (wrap-less l (c .read .0 + n) (omega (arith, m .ready))); some = m .some; fits = m .fits }));

@@ -37,16 +37,16 @@ abbrev pub judgedLength : ℕ → Answer
 judgedLength l = need (lengthOk l) BadLength Accepted
 
 -- R2.6, R3.13, R3.14: the length, then the cursors, then the rest
-abbrev pub judgedThen : ℕ → Cursors → Answer → Answer
-judgedThen l c rest = need (lengthOk l) BadLength (need (cursorsOk l c) BadState rest)
+abbrev pub judgedRingThen : ℕ → Cursors → Answer → Answer
+judgedRingThen l c rest = need (lengthOk l) BadLength (need (cursorsOk l c) BadState rest)
 
 -- a call with cursors
 abbrev pub judgedRing : ℕ → Cursors → Answer
-judgedRing l c = judgedThen l c Accepted
+judgedRing l c = judgedRingThen l c Accepted
 
 -- R3.15: a call with cursors that moves n samples
 abbrev pub judgedCount : ℕ → Cursors → ℕ → Answer
-judgedCount l c n = judgedThen l c (need (countOk l n) BadIndex Accepted)
+judgedCount l c n = judgedRingThen l c (need (countOk l n) BadIndex Accepted)
 
 -- ---- cursors
 

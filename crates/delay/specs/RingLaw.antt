@@ -33,7 +33,7 @@ abbrev pub Equal : Cursors → Type 0
 Equal c = c .read ≡ c .write
 
 -- R3.20: cursors equal before a turn are equal after it, accepted or not
-pub record CursorsTogether : Type 0 where
+pub record CursorsStayEqual : Type 0 where
   pub turn : (l : ℕ) (c : Cursors) (n : ℕ) → Equal c → Equal (putAnswer l (getAnswer l c n .cursors) n .cursors)
   pub turn4 : (ring : List Float) (c : Cursors) → Equal c → Equal (put4Answer (length ring) (get4Answer ring c .cursors) .cursors)
 
@@ -55,18 +55,18 @@ pub record Turn : Type 0 where
   pub put : Put
 
 -- how many samples it gets, and those that it puts
-abbrev pub count : Get → ℕ
-count (getN out) = length out
-count get4 = 4
+abbrev pub getSize : Get → ℕ
+getSize (getN out) = length out
+getSize get4 = 4
 
-abbrev pub samples : Put → List Float
-samples (putN xs) = xs
-samples (put4 x) = listOf x
+abbrev pub putSamples : Put → List Float
+putSamples (putN xs) = xs
+putSamples (put4 x) = listOf x
 
 -- each turn has an n of its own, from 1 to l, and one with a `get4` or a `put4` has n = 4
 abbrev pub Each : ℕ → List Turn → Type 0
 Each l [] = Unit {0}
-Each l (t ∷ ts) = (count (t .get) ≡ length (samples (t .put))) × (1 ≤ length (samples (t .put))) × (length (samples (t .put)) ≤ l) × Each l ts
+Each l (t ∷ ts) = (getSize (t .get) ≡ length (putSamples (t .put))) × (1 ≤ length (putSamples (t .put))) × (length (putSamples (t .put)) ≤ l) × Each l ts
 
 -- what a get hands out, and the cursors that it gives
 abbrev pub gotten : List Float → Cursors → Get → List Float
@@ -94,16 +94,16 @@ gets ring c (t ∷ ts) =
     gotten ring c (t .get) ∷ gets (ringAfter ring c₁ (t .put)) (afterPut (length ring) c₁ (t .put)) ts
 
 -- all samples put, in order
-abbrev pub given : List Turn → List Float
-given ts = flatten (map (λ t. samples (t .put)) ts)
+abbrev pub allPut : List Turn → List Float
+allPut ts = flatten (map (λ t. putSamples (t .put)) ts)
 
 -- from a fresh, or from a reset while the cursors are equal: P holds of L, all samples put and all samples got
 abbrev pub FromSilence : (ℕ → List Float → List Float → Type 0) → Type 0
 FromSilence P =
     (ring : List Float) (ts : List Turn) → 1 ≤ length ring → length ring ≤ longestRing → Each (length ring) ts
-    → P (length ring) (given ts) (flatten (gets (freshRing ring) (freshAnswer (length ring) .cursors) ts))
+    → P (length ring) (allPut ts) (flatten (gets (freshRing ring) (freshAnswer (length ring) .cursors) ts))
     × ((c : Cursors) → Equal c → Below (length ring) c
-    → P (length ring) (given ts) (flatten (gets (resetRing ring c) (resetAnswer (length ring) c .cursors) ts)))
+    → P (length ring) (allPut ts) (flatten (gets (resetRing ring c) (resetAnswer (length ring) c .cursors) ts)))
 
 -- R3.19: all that is got is the front of L times +0 followed by all that is put
 abbrev pub RingLaw : Type 0

@@ -6,7 +6,7 @@ ghost use mathlib.Core.Path.{_≡_};
 ghost use Prim.Native.Nat.{_+_, _<_, _≤_};
 ghost use lib.ListN.{length};
 ghost use Rattle.delay.specs.Ring.{wrap, read, write, ahead, readEach, writeEach, listOf, fourOf};
-ghost use Rattle.delay.specs.Calls.{lengthOk, judgedThen, judgedCount, silent, freshAnswer, freshRing, resetAnswer, resetRing};
+ghost use Rattle.delay.specs.Calls.{lengthOk, judgedRingThen, judgedCount, silent, freshAnswer, freshRing, resetAnswer, resetRing};
 ghost use Rattle.delay.specs.Calls.{getAnswer, getOut, putAnswer, putRing, get4Answer, put4Answer, put4Ring};
 use samples::Answer;
 use samples::Samples;
@@ -171,7 +171,7 @@ fn length_ok(l: usize) -> bool
 
 // Judges a ring's length, then its cursors; then `rest` says.
 fn judge(l: usize, c: Cursors, rest: Answer) -> Answer
-    ensures { λ r. ⌜ r ≡ judgedThen l c rest ⌝ }
+    ensures { λ r. ⌜ r ≡ judgedRingThen l c rest ⌝ }
 {
     let below = and(c.read.0 < l, c.write.0 < l);
     need(

@@ -20,7 +20,7 @@ use Rattle.stages.specs.Frame.{Frame, frameOf, frameFrom, passesIn, lineRows}
 use Rattle.stages.proofs.RowLaws.{Held, length-readRows, length-bandEnds}
 use Rattle.stages.proofs.FrameLaws.{put-beside, out-long}
 use Rattle.judges.specs.Marks.{mixMark, lineMark, outputMark}
-use Rattle.rows.specs.Rows.{Rows, rowsOf, joined}
+use Rattle.rows.specs.Rows.{Rows, rowsOf, joinedRows}
 use Rattle.machine.specs.Ending.{Memory}
 use Rattle.demands.proofs.LineRings.{row-long, lines-held}
 use Rattle.demands.proofs.AnyOrderRows.{stacked, length-stacked}
@@ -103,7 +103,7 @@ abbrev pub unitAt : Model → Opening → List Bool → UnitState
 unitAt m o marks = unitWith o (filtersAt m o marks) marks
 
 abbrev pub memoryAt : Model → Opening → List Bool → Memory
-memoryAt m o marks = record { unit = unitAt m o marks; store = o .store; work = joined (rowsAt m o marks) }
+memoryAt m o marks = record { unit = unitAt m o marks; store = o .store; work = joinedRows (rowsAt m o marks) }
 
 -- either of two
 cond-long : {A : Type 0} (b : Bool) (x y : List A) (k : ℕ) → length x ≡ k → length y ≡ k → length (cond b x y) ≡ k
@@ -195,8 +195,8 @@ module _ (m : Model) (o : Opening) (h : Fit m o) where
       output = output-long;
     }
 
-    pub work-long : length (joined (rowsAt m o marks)) ≡ workLen m f
+    pub work-long : length (joinedRows (rowsAt m o marks)) ≡ workLen m f
     work-long = length-joined m f (rowsAt m o marks) long rings-at-long
 
-    pub cut : rowsOf m f (joined (rowsAt m o marks)) ≡ rowsAt m o marks
+    pub cut : rowsOf m f (joinedRows (rowsAt m o marks)) ≡ rowsAt m o marks
     cut = cut-joined m f (rowsAt m o marks) long

@@ -21,7 +21,7 @@ use Rattle.unit.specs.Sizes.{lengths, jobsLen}
 use Rattle.stages.specs.Lines.{noFilter, three, threeOf, plus}
 use Rattle.stages.specs.Frame.{Frame, OutputRow, frameFrom, passesIn, lineRows, newFilters}
 use Rattle.judges.specs.Marks.{mixMark, lineMark, outputMark, allDone}
-use Rattle.rows.specs.Rows.{Rows, rowsOf, joined}
+use Rattle.rows.specs.Rows.{Rows, rowsOf, joinedRows}
 use Rattle.rows.specs.Parts.{lineIn, lineLaid, lineEnds}
 use Rattle.outputs.specs.Parts.{outputIn, outputLaid, outputEnds}
 use Rattle.machine.specs.Jobs.{openLaid, readRow, readWork, mixLaid, lineJob, outputJob, jobWork, jobFilters}
@@ -104,21 +104,21 @@ module _ (m : Model) (o : Opening) (h : Fit m o) (marks : List Bool) where
       pub read-filters : filtersAt m o marks ≡ filtersAt m o (set marks i true)
       read-filters = filters-kept i (λ e. omega arith) read-there
 
-      pub read-work : readWork m (unitAt m o marks) i (o .store) (joined (rowsAt m o marks)) ≡ joined (rowsAt m o (set marks i true))
+      pub read-work : readWork m (unitAt m o marks) i (o .store) (joinedRows (rowsAt m o marks)) ≡ joinedRows (rowsAt m o (set marks i true))
       unfolding readWork
       read-work =
           let own : List Float → List Float = setRow f i (readRow m (unitAt m o marks) i (o .store)) in
           let set-is : own (stacked n (readAt m o marks)) ≡ stacked n (readAt m o (set marks i true)) =
           ap (λ (r : List Float). setRow f i r (stacked n (readAt m o marks))) read-is
           ∙ set-of f n (readAt m o marks) (readAt m o (set marks i true)) i b (read-long m o h marks) (λ j q. rw (set-there marks i j q) refl) in
-          (λ t. joined (record {
+          (λ t. joinedRows (record {
             input = cut m o h marks t .input;
             reads = own (cut m o h marks t .reads);
             mixed = cut m o h marks t .mixed;
             output = cut m o h marks t .output;
             rings = cut m o h marks t .rings;
           }))
-          ∙ (λ t. joined (record {
+          ∙ (λ t. joinedRows (record {
             input = o .input;
             reads = set-is t;
             mixed = mixed-kept i read-there (λ e. omega arith) t;
@@ -145,17 +145,17 @@ module _ (m : Model) (o : Opening) (h : Fit m o) (marks : List Bool) where
           let unmarked : at marks (lineMark m i) ≡ false = false-of _ (λ y. true≢false (sym (g .after-mix i b y) ∙ unmixed)) in
           rw (set-here marks (mixMark m) (omega (arith, g .long)), set-there marks (mixMark m) (lineMark m i) (mix-there i b), unmarked) refl)
 
-      pub mix-work : mixLaid m f (joined (rowsAt m o marks)) ≡ joined (rowsAt m o (set marks (mixMark m) true))
+      pub mix-work : mixLaid m f (joinedRows (rowsAt m o marks)) ≡ joinedRows (rowsAt m o (set marks (mixMark m) true))
       unfolding mixLaid
       mix-work =
-          (λ t. joined (record {
+          (λ t. joinedRows (record {
             input = cut m o h marks t .input;
             reads = cut m o h marks t .reads;
             mixed = mixedRows n f (m .factor) (cut m o h marks t .reads);
             output = cut m o h marks t .output;
             rings = cut m o h marks t .rings;
           }))
-          ∙ (λ t. joined (record {
+          ∙ (λ t. joinedRows (record {
             input = o .input;
             reads = reads-kept (mixMark m) (omega arith) t;
             mixed = mix-is t;
@@ -197,20 +197,20 @@ module _ (m : Model) (o : Opening) (h : Fit m o) (marks : List Bool) where
           ∙ sym (put-row n f (m .factor) (o .tail) (o .filters) (o .input) (R .reads) i b (h .input))
           ∙ rw (mix-there-too, mark-here) refl
 
-      pub line-work : jobWork m (memoryAt m o marks) (lineJob i) ≡ joined (rowsAt m o lined)
+      pub line-work : jobWork m (memoryAt m o marks) (lineJob i) ≡ joinedRows (rowsAt m o lined)
       unfolding lineLaid
       line-work =
           let set-is : setRow f i (lineRow (unitAt m o marks) i (rowsAt m o marks)) (stacked n (mixedAt m o marks)) ≡ stacked n (mixedAt m o lined) =
           ap (λ (r : List Float). setRow f i r (stacked n (mixedAt m o marks))) line-is
           ∙ set-of f n (mixedAt m o marks) (mixedAt m o lined) i b (mix-long m o h marks) (λ j q. rw (other-line j q, mix-there-too, after) refl) in
-          (λ t. joined (record {
+          (λ t. joinedRows (record {
             input = cut m o h marks t .input;
             reads = cut m o h marks t .reads;
             mixed = setRow f i (lineRow (unitAt m o marks) i (cut m o h marks t)) (cut m o h marks t .mixed);
             output = cut m o h marks t .output;
             rings = cut m o h marks t .rings;
           }))
-          ∙ (λ t. joined (record {
+          ∙ (λ t. joinedRows (record {
             input = o .input;
             reads = reads-kept (lineMark m i) (omega arith) t;
             mixed = set-is t;
@@ -218,7 +218,7 @@ module _ (m : Model) (o : Opening) (h : Fit m o) (marks : List Bool) where
             rings = rings-kept (lineMark m i) (λ q. omega arith) t;
           }))
 
-      ends-are : threeOf (bandsEnd (three (3 * i) (filtersAt m o marks)) (row f i (rowsOf m f (joined (rowsAt m o marks)) .mixed))) ≡ bandsAt m o lined i
+      ends-are : threeOf (bandsEnd (three (3 * i) (filtersAt m o marks)) (row f i (rowsOf m f (joinedRows (rowsAt m o marks)) .mixed))) ≡ bandsAt m o lined i
       unfolding frameFrom lineRows
       ends-are =
           (λ t. threeOf (bandsEnd (its-filters t) (row f i (cut m o h marks t .mixed))))
@@ -268,20 +268,20 @@ module _ (m : Model) (o : Opening) (h : Fit m o) (marks : List Bool) where
           output-asks n f (m .divisor) (m .passes) (o .unit .cursors .passes) (o .filters) (filtersAt m o marks) (ringsAt m o marks) (stacked n (readAt m o marks)) tone-same
           ∙ rw (undone, all-reads e (omega (arith, g .long))) refl
 
-      output-cut : outputOf m (unitAt m o marks) (rowsOf m f (joined (rowsAt m o marks))) ≡ R .output
+      output-cut : outputOf m (unitAt m o marks) (rowsOf m f (joinedRows (rowsAt m o marks))) ≡ R .output
       output-cut = ap (outputOf m (unitAt m o marks)) (cut m o h marks) ∙ output-is
 
-      pub output-work : jobWork m (memoryAt m o marks) outputJob ≡ joined (rowsAt m o out)
+      pub output-work : jobWork m (memoryAt m o marks) outputJob ≡ joinedRows (rowsAt m o out)
       unfolding outputLaid
       output-work =
-          (λ t. joined (record {
+          (λ t. joinedRows (record {
             input = cut m o h marks t .input;
             reads = cut m o h marks t .reads;
             mixed = cut m o h marks t .mixed;
             output = output-cut t .out;
             rings = output-cut t .rings;
           }))
-          ∙ (λ t. joined (record {
+          ∙ (λ t. joinedRows (record {
             input = o .input;
             reads = reads-kept (outputMark m) (omega arith) t;
             mixed = mixed-kept (outputMark m) out-there (λ q. omega arith) t;
@@ -326,7 +326,7 @@ module _ (m : Model) (o : Opening) where
       let tone : toneAt m o none ≡ drop (3 * m .lines) (o .filters) = rw no-output refl in
       (λ t. lines t ++ tone t) ∙ take-append-drop (3 * m .lines) (o .filters)
 
-  pub none-work : openLaid m (o .unit .settings .frame) (o .input) (passesIn (lengths m (o .unit)) (o .store)) ≡ joined (rowsAt m o none)
+  pub none-work : openLaid m (o .unit .settings .frame) (o .input) (passesIn (lengths m (o .unit)) (o .store)) ≡ joinedRows (rowsAt m o none)
   unfolding openLaid
   none-work =
       let silent = silent-rows (m .lines) (o .unit .settings .frame) in
@@ -334,7 +334,7 @@ module _ (m : Model) (o : Opening) where
       stacked-same (m .lines) (λ i. silence o) (readAt m o none) (λ i b. rw (unmarked-at i (omega arith)) refl) in
       let mixed : stacked (m .lines) (λ i. silence o) ≡ stacked (m .lines) (mixedAt m o none) =
       stacked-same (m .lines) (λ i. silence o) (mixedAt m o none) (λ i b. rw (unmarked-at (mixMark m) (omega arith)) refl) in
-      λ t. joined (record {
+      λ t. joinedRows (record {
         input = o .input;
         reads = (silent ∙ reads) t;
         mixed = (silent ∙ mixed) t;

@@ -8,7 +8,7 @@ use lib.ListN.{length, take, drop, length-append}
 use lib.Seq.{take-at, drop-at, drop-drop}
 use Rattle.unit.specs.Model.{Model}
 use Rattle.unit.specs.Sizes.{total, workLen}
-use Rattle.rows.specs.Rows.{Rows, rowsOf, joined}
+use Rattle.rows.specs.Rows.{Rows, rowsOf, joinedRows}
 
 -- rows of a frame of f as long as they are to be
 pub record Long (m : Model) (f : ℕ) (r : Rows) : Type 0 where
@@ -18,8 +18,8 @@ pub record Long (m : Model) (f : ℕ) (r : Rows) : Type 0 where
   pub output : length (r .output) ≡ f
 
 -- cut, they are themselves again
-pub cut-joined : (m : Model) (f : ℕ) (r : Rows) → Long m f r → rowsOf m f (joined r) ≡ r
-unfolding rowsOf joined
+pub cut-joined : (m : Model) (f : ℕ) (r : Rows) → Long m f r → rowsOf m f (joinedRows r) ≡ r
+unfolding rowsOf joinedRows
 cut-joined m f r l =
     let k = m .lines * f in
     let four = r .output ++ r .rings in
@@ -36,8 +36,8 @@ cut-joined m f r l =
     λ i. record { input = t0 i; reads = t1 i; mixed = t2 i; output = t3 i; rings = d4 i }
 
 -- they are as long as the work memory
-pub length-joined : (m : Model) (f : ℕ) (r : Rows) → Long m f r → length (r .rings) ≡ total (m .passes) → length (joined r) ≡ workLen m f
-unfolding joined workLen
+pub length-joined : (m : Model) (f : ℕ) (r : Rows) → Long m f r → length (r .rings) ≡ total (m .passes) → length (joinedRows r) ≡ workLen m f
+unfolding joinedRows workLen
 length-joined m f r l e =
     simp length-append
     (omega (arith, l .input, l .reads, l .mixed, l .output, add-mul (m .lines + m .lines) 2 f, add-mul (m .lines) (m .lines) f))

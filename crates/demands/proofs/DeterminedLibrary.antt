@@ -1,7 +1,7 @@
 -- What a contract allows is read off its shape: a clause for the result and one for each slice lent. Assumes nothing.
 use mathlib.Core.Path.{_≡_, sym, _∙_}
 use lib.ListN.{getD}
-use Rattle.lanes.specs.declared.bank.FourBands.{FourBands}
+use Rattle.lanes.specs.declared.band_lanes.FourBands.{FourBands}
 use Rattle.bank.specs.Lines.{lines}
 use Rattle.demands.specs.DeterminedLibrary.{LibraryDetermined}
 
@@ -47,7 +47,7 @@ library-determined = record {
   lanes = record {
     by-band = λ κs a x y s t p q. p ∙ sym q;
     bands-at = λ κs a x y s t p q. p ∙ sym q;
-    step-bank = λ κs a x y s t p q. p ∙ sym q;
+    step-bands = λ κs a x y s t p q. p ∙ sym q;
     pack = λ κs a x y s t p q. p ∙ sym q;
     lane = λ κs a x y s t p q. p ∙ sym q;
     step = λ κs a x y s t p q. p ∙ sym q;

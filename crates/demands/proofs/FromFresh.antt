@@ -20,7 +20,7 @@ use Rattle.demands.specs.AnyOrder.{Begins, worked}
 use Rattle.demands.specs.LineLaw.{by-reset}
 use Rattle.demands.specs.Refusals.{givenBack}
 use Rattle.demands.specs.FromFresh.{Built, Reached, FromFresh, from-fresh, AnyOrderFromFresh, CloseFromFresh, LineLawFromFresh}
-use Rattle.demands.specs.FromFresh.{AnyJob, any-job, Worked, opened, GivesUp, FrameGivenUp, FrameGivenUpFromFresh}
+use Rattle.demands.specs.FromFresh.{AnyJob, any-job, Worked, afterOpen, GivesUp, FrameGivenUp, FrameGivenUpFromFresh}
 use Rattle.demands.proofs.Refused.{failure-gives-back, abandon-gives-back}
 use Rattle.demands.proofs.AnyOrderBlank.{idle}
 use Rattle.demands.proofs.AnyOrderOpen.{opened-told}
@@ -102,9 +102,9 @@ unfolding ending answerOf request
 frame-given-up m w sized p s k e rs b =
     let told = opened-told m (seen w s k) p e in
     let none = idle m (w .unit) sized (told .range) (told .free) in
-    let first : Open w (opened m w p s k) = rw e record { settings = refl; cursors = refl; count = refl; before = refl; busy = refl; store = left-same s (w .store) refl } in
-    let v = requests m (opened m w p s k) rs in
-    let still = jobs-open m w (opened m w p s k) rs b first in (
+    let first : Open w (afterOpen m w p s k) = rw e record { settings = refl; cursors = refl; count = refl; before = refl; busy = refl; store = left-same s (w .store) refl } in
+    let v = requests m (afterOpen m w p s k) rs in
+    let still = jobs-open m w (afterOpen m w p s k) rs b first in (
       λ s′ k′. record {
         abandoned = λ a. ap (λ (x : Memory). x .unit) (abandon-gives-back m (seen v s′ k′) a) ∙ given-back m w v s′ k′ none still;
         failed = λ output a. ap (λ (x : Ending). x .memory .unit) (failure-gives-back m (seen v s′ k′) (close output) a) ∙ given-back m w v s′ k′ none still;

@@ -20,7 +20,7 @@ use Rattle.unit.specs.Sizes.{jobsLen}
 use Rattle.unit.specs.Range.{inRange}
 use Rattle.judges.specs.Judges.{storeOk, workOk}
 use Rattle.judges.specs.Marks.{mixMark, lineMark, outputMark, allDone, allRead}
-use Rattle.rows.specs.Rows.{joined}
+use Rattle.rows.specs.Rows.{joinedRows}
 use Rattle.machine.specs.Whole.{Play}
 use Rattle.machine.specs.Ending.{Memory}
 use Rattle.machine.specs.Jobs.{Job, readJob, mixJob, lineJob, outputJob, markOf}
@@ -115,7 +115,7 @@ module _ (m : Model) (w : Memory) (p : Play) (begins : Begins m (w .unit)) (e : 
     store-fits : storeOk m (memoryAt m o marks .unit) (length (w .store)) ≡ true
     store-fits = eq-eqb _ _ (tells m w p begins e .store)
 
-    work-fits : workOk m (memoryAt m o marks .unit) (length (joined (rowsAt m o marks))) ≡ true
+    work-fits : workOk m (memoryAt m o marks .unit) (length (joinedRows (rowsAt m o marks))) ≡ true
     work-fits = eq-eqb _ _ (work-long m o h marks)
 
     ranged : inRange m (memoryAt m o marks .unit) ≡ true

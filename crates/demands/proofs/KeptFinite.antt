@@ -35,7 +35,7 @@ use Rattle.machine.specs.Jobs.{jobFilters}
 use Rattle.machine.specs.Calls.{ending, Call, reset, whole, start, job, close, abandon, answer, after}
 use Rattle.machine.specs.Requests.{Slice, own, other, lent, left, Request, fresh, ask, seen, request}
 use Rattle.machine.specs.Runs.{Event, anew, asked, afresh, run}
-use Rattle.demands.specs.Demands.{keptFilters, Kept, KeptFinite}
+use Rattle.demands.specs.Demands.{keptFilters, KeptNumbers, KeptFinite}
 use Rattle.demands.proofs.Lent.{told, whole-lent, close-lent, job-busy}
 use Rattle.demands.proofs.AnyOrderOpen.{opened-told}
 
@@ -201,7 +201,7 @@ module _ (m : Model) where
   own-finite own new mine f h = f h
   own-finite (other xs) new mine f h = h
 
-  request-kept : (w : Memory) (r : Request) → Kept w → Kept (request m w r)
+  request-kept : (w : Memory) (r : Request) → KeptNumbers w → KeptNumbers (request m w r)
   unfolding request
   request-kept w (fresh rate frame s) h = record {
     store = own-finite s _ (w .store) (silent-kept rate frame (lent s (w .store))) (h .store);
@@ -214,7 +214,7 @@ module _ (m : Model) where
     before = call-held (seen w s k) c (h .filters) (h .before);
   }
 
-  run-kept : (w : Memory) (es : List Event) → Kept w → Kept (run m w es)
+  run-kept : (w : Memory) (es : List Event) → KeptNumbers w → KeptNumbers (run m w es)
   unfolding run
   run-kept w [] h = h
   run-kept w (anew rate frame ∷ es) h =

@@ -37,7 +37,7 @@ use Rattle.machine.specs.Ending.{Memory, Ending, refused}
 use Rattle.machine.proofs.Cases.{whole-either, close-either}
 use Rattle.machine.specs.Calls.{ending, Call, reset, whole, start, job, close, abandon, answer, after}
 use Rattle.machine.specs.Requests.{Slice, own, other, lent, left, Request, fresh, ask, seen, refusal, answerOf, request}
-use Rattle.demands.specs.LineLaw.{Account, turned, noted, account, Plays, plays-whole, plays-start, plays-job, plays-close, plays-abandon}
+use Rattle.demands.specs.LineLaw.{Account, traded, noted, account, Plays, plays-whole, plays-start, plays-job, plays-close, plays-abandon}
 use Rattle.demands.specs.LineLaw.{AllPlay, Silent, freshly, by-reset, LineLaw}
 use Rattle.demands.proofs.Lent.{told, fresh-long, Lent, reset-lent, whole-lent, close-lent, whole-put, cursors, within}
 use Rattle.demands.proofs.LineRings.{ring-same, read-row, lines-held, length-moved}
@@ -89,7 +89,7 @@ module _ (m : Model) (i : ℕ) (h : i < m .lines) (l : ℕ) where
   frame-holds : (u v : UnitState) (store rows rings read : List Float) (a : Account) → Holds u store a → Lent m u (length store)
       → length rows ≡ m .lines * u .settings .frame → read ≡ readRow m u i store
       → v .settings ≡ u .settings → v .cursors .lines ≡ allMoved (u .settings .frame) (lengths m u) (u .cursors .lines) → length (v .held .marks) ≡ jobsLen m → v .held .busy ≡ false
-      → Holds v (putRows (u .settings .frame) (m .lines) 0 (lengths m u) (u .cursors .lines) rows rings store) (turned a read (row (u .settings .frame) i rows))
+      → Holds v (putRows (u .settings .frame) (m .lines) 0 (lengths m u) (u .cursors .lines) rows rings store) (traded a read (row (u .settings .frame) i rows))
   frame-holds u v store rows rings read a inv lent e q vs vl vm vb =
       let line = inv .line in
       let t = ring-turn m i h u store lent (line .lines) (line .equal) rows rings e in
@@ -178,11 +178,11 @@ module _ (m : Model) (i : ℕ) (h : i < m .lines) (l : ℕ) where
 
     -- a call that ends in x, where an accepted one hands out `read` and is given `put`
     abbrev Ends : List Float → List Float → Ending → Type 0
-    Ends read put x = Holds (x .memory .unit) (x .memory .store) (accept (x .answer) (turned a read put) a)
+    Ends read put x = Holds (x .memory .unit) (x .memory .store) (accept (x .answer) (traded a read put) a)
 
     -- refused, it leaves all as it was
     refused-holds : (read put : List Float) (due : Answer) (output : List Float) → accepted due ≡ false → Ends read put (refused due w output)
-    refused-holds read put due output n = rw (accept-no due (turned a read put) a n) inv
+    refused-holds read put due output n = rw (accept-no due (traded a read put) a n) inv
 
     whole-holds : (p : Play) (output : List Float) → Then (whole p output)
     unfolding ending noted settled

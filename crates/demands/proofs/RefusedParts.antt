@@ -16,8 +16,8 @@ use Rattle.hadamard.specs.Rows.{rowsMixed}
 use Rattle.primes.specs.Values.{judgedValues, valuesFrom, delayMin}
 use Rattle.audio_buffer.specs.Judges.{judgedTwo}
 use Rattle.audio_buffer.specs.Layout.{interleaved, deinterleaved}
-use Rattle.levels.specs.Judges.{judged, judgedDownmix}
-use Rattle.levels.specs.Levels.{scaled, mixed as buffersMixed, downmixed}
+use Rattle.levels.specs.Judges.{judgedOne, judgedDownmix}
+use Rattle.levels.specs.Levels.{scaled, buffersMixed as buffersMixed, downmixed}
 use Rattle.demands.specs.RefusedParts.{PartsUnchanged}
 
 -- what is `new` where the answer b accepts and `old` where it refuses is `old`, if the answer given, which is b, refuses
@@ -52,8 +52,8 @@ parts-unchanged = record {
     read-interleaved-buffer = λ κs a x s p h. kept (x) (judgedTwo (a .0) (a .1 .0) (length (a .1 .1 .0 .now)) (length (a .1 .1 .1 .0 .now))) (deinterleaved (a .0) (a .1 .0) (a .1 .1 .0 .now)) (a .1 .1 .1 .0 .now) (p .1) (p .0) h;
   };
   levels = record {
-    make-silent-buffer = λ κs a x s p h. kept (x) (judged (a .0) (a .1 .0) (length (a .1 .1 .0 .now))) (replicate (length (a .1 .1 .0 .now)) +0) (a .1 .1 .0 .now) (p .1) (p .0) h;
-    scale-buffer = λ κs a x s p h. kept (x) (judged (a .0) (a .1 .0) (length (a .1 .1 .1 .0 .now))) (scaled (a .1 .1 .0) (a .1 .1 .1 .0 .now)) (a .1 .1 .1 .0 .now) (p .1) (p .0) h;
+    make-silent-buffer = λ κs a x s p h. kept (x) (judgedOne (a .0) (a .1 .0) (length (a .1 .1 .0 .now))) (replicate (length (a .1 .1 .0 .now)) +0) (a .1 .1 .0 .now) (p .1) (p .0) h;
+    scale-buffer = λ κs a x s p h. kept (x) (judgedOne (a .0) (a .1 .0) (length (a .1 .1 .1 .0 .now))) (scaled (a .1 .1 .0) (a .1 .1 .1 .0 .now)) (a .1 .1 .1 .0 .now) (p .1) (p .0) h;
     mix-other = λ κs a x s p h. kept (x) (judgedTwo (a .0) (a .1 .0) (length (a .1 .1 .0 .now)) (length (a .1 .1 .1 .0 .now))) (buffersMixed (a .1 .1 .0 .now) (a .1 .1 .1 .0 .now)) (a .1 .1 .1 .0 .now) (p .1) (p .0) h;
     downmix-output = λ κs a x s p h. kept (x) (judgedDownmix (a .0) (a .1 .0) (length (a .1 .1 .0 .now)) (length (a .1 .1 .1 .0 .now))) (downmixed (a .0) (a .1 .0) (a .1 .1 .0 .now)) (a .1 .1 .1 .0 .now) (p .1) (p .0) h;
   };

@@ -11,7 +11,7 @@ use Rattle.samples.proofs.Laws.{is-accepted, accept-no}
 use Rattle.unit.specs.declared.Outcome.{Outcome}
 use Rattle.unit.specs.Model.{wall}
 use Rattle.unit.specs.Fresh.{freshUnit}
-use Rattle.machine.specs.Ending.{Memory, Ending, given, refused, quietly}
+use Rattle.machine.specs.Ending.{Memory, Ending, outcomeOf, refused, quietly}
 use Rattle.machine.specs.Whole.{begun}
 use Rattle.machine.specs.Calls.{Call, ending}
 use Rattle.machine.specs.Requests.{refusal}
@@ -25,7 +25,7 @@ use Rattle.demands.proofs.Refused.{refusal-changes-nothing, failure-giv
 
 -- a result and slices that are those of an ending are all of it
 all-of : (e : Ending) {x : Outcome} {store work output : List Float}
-    → x ≡ given e → store ≡ e .memory .store → work ≡ e .memory .work → output ≡ e .output → leaving x store work output ≡ e
+    → x ≡ outcomeOf e → store ≡ e .memory .store → work ≡ e .memory .work → output ≡ e .output → leaving x store work output ≡ e
 all-of e p q r o = λ t. leaving (p t) (q t) (r t) (o t)
 
 -- what is done to what a call leaves may be done to the new and to the old
@@ -44,22 +44,22 @@ abbrev working : List Float → Memory → Memory
 working rest w = record { unit = w .unit; store = w .store; work = rest }
 
 no-store : (due : Answer) (new old : Memory) (rest : List Float) {x : Outcome} {work : List Float}
-    → x ≡ given (quietly due new old) → work ≡ accept due new old .work
+    → x ≡ outcomeOf (quietly due new old) → work ≡ accept due new old .work
     → leaving x rest work [] ≡ quietly due (storing rest new) (storing rest old)
 no-store due new old rest p q =
     (λ t. leaving (p t) rest (q t) [])
-    ∙ (λ t. record { answer = due; verdict = given (quietly due new old) .verdict; memory = accept-of (storing rest) due new old t; output = [] })
+    ∙ (λ t. record { answer = due; verdict = outcomeOf (quietly due new old) .verdict; memory = accept-of (storing rest) due new old t; output = [] })
 
 no-work : (due : Answer) (new old : Memory) (rest : List Float) {x : Outcome} {store : List Float}
-    → x ≡ given (quietly due new old) → store ≡ accept due new old .store
+    → x ≡ outcomeOf (quietly due new old) → store ≡ accept due new old .store
     → leaving x store rest [] ≡ quietly due (working rest new) (working rest old)
 no-work due new old rest p q =
     (λ t. leaving (p t) (q t) rest [])
-    ∙ (λ t. record { answer = due; verdict = given (quietly due new old) .verdict; memory = accept-of (working rest) due new old t; output = [] })
+    ∙ (λ t. record { answer = due; verdict = outcomeOf (quietly due new old) .verdict; memory = accept-of (working rest) due new old t; output = [] })
 
 -- a store lent to be read alone is left, whether a quiet call is accepted or not
 store-read : (due : Answer) (new old : Memory) {x : Outcome} {work : List Float} → new .store ≡ old .store
-    → x ≡ given (quietly due new old) → work ≡ accept due new old .work → leaving x (old .store) work [] ≡ quietly due new old
+    → x ≡ outcomeOf (quietly due new old) → work ≡ accept due new old .work → leaving x (old .store) work [] ≡ quietly due new old
 store-read due new old e p q = all-of (quietly due new old) p (sym (accept-of (λ (w : Memory). w .store) due new old ∙ either (accepted due) refl)) q refl
   where
     either : (b : Bool) → accepted due ≡ b → accept due (new .store) (old .store) ≡ old .store

@@ -19,7 +19,7 @@ abbrev pub keptFilters : UnitState → List Filter
 keptFilters u = cond (u .held .busy) (u .held .before) (u .filters)
 
 -- every number that is kept is finite: of the store, of the filters, and of those held for an open frame, which are blank while none is
-pub record Kept (w : Memory) : Type 0 where
+pub record KeptNumbers (w : Memory) : Type 0 where
   pub store : allFinite (w .store) ≡ true
   pub filters : filtersFinite (keptFilters (w .unit)) ≡ true
   pub before : filtersFinite (w .unit .held .before) ≡ true
@@ -29,4 +29,4 @@ pub record Kept (w : Memory) : Type 0 where
 abbrev pub KeptFinite : Type 0
 KeptFinite =
     (m : Model) (w : Memory) (rate frame : ℕ) → judgedFresh m rate frame (length (w .store)) ≡ Accepted
-    → (es : List Event) → Kept (run m (afresh m w rate frame) es)
+    → (es : List Event) → KeptNumbers (run m (afresh m w rate frame) es)

@@ -56,8 +56,8 @@ use Rattle.lanes.proofs.by_band.Kinds as lanes-by-band-kinds
 use Rattle.lanes.proofs.by_band.Reads as lanes-by-band-reads
 use Rattle.lanes.proofs.bands_at.Kinds as lanes-bands-at-kinds
 use Rattle.lanes.proofs.bands_at.Reads as lanes-bands-at-reads
-use Rattle.lanes.proofs.step_bank.Kinds as lanes-step-bank-kinds
-use Rattle.lanes.proofs.step_bank.Reads as lanes-step-bank-reads
+use Rattle.lanes.proofs.step_bands.Kinds as lanes-step-bands-kinds
+use Rattle.lanes.proofs.step_bands.Reads as lanes-step-bands-reads
 use Rattle.lanes.proofs.pack.Kinds as lanes-pack-kinds
 use Rattle.lanes.proofs.pack.Reads as lanes-pack-reads
 use Rattle.lanes.proofs.lane.Kinds as lanes-lane-kinds
@@ -267,7 +267,7 @@ pub record IirDetermined : Type 0 where
 pub record LanesDetermined : Type 0 where
   pub by-band : Determined 0 lanes-by-band-kinds.ps lanes-by-band-kinds.r lanes-by-band-reads.Post
   pub bands-at : Determined 0 lanes-bands-at-kinds.ps lanes-bands-at-kinds.r lanes-bands-at-reads.Post
-  pub step-bank : Determined 0 lanes-step-bank-kinds.ps lanes-step-bank-kinds.r lanes-step-bank-reads.Post
+  pub step-bands : Determined 0 lanes-step-bands-kinds.ps lanes-step-bands-kinds.r lanes-step-bands-reads.Post
   pub pack : Determined 0 lanes-pack-kinds.ps lanes-pack-kinds.r lanes-pack-reads.Post
   pub lane : Determined 0 lanes-lane-kinds.ps lanes-lane-kinds.r lanes-lane-reads.Post
   pub step : Determined 0 lanes-step-kinds.ps lanes-step-kinds.r lanes-step-reads.Post

@@ -78,8 +78,8 @@ Worked m w [] = Unit {0}
 Worked m w (r ∷ rs) = (AnyJob r ⊎ (refusal (answerOf m w r) ≡ true)) × Worked m (request m w r) rs
 
 -- the unit w, whose lists are as long as a `State`'s, after a frame p is opened on any slices, and then such requests
-abbrev pub opened : Model → Memory → Play → Slice → Slice → Memory
-opened m w p s k = request m w (ask (start p) s k)
+abbrev pub afterOpen : Model → Memory → Play → Slice → Slice → Memory
+afterOpen m w p s k = request m w (ask (start p) s k)
 
 -- v, which is lent any slices, gives up a frame of w: the abandon that is accepted and the close that is answered 9 leave the unit of w, bit for
 -- bit. The logic has one NaN: of a state whose filters hold one, up to which NaN it is
@@ -91,12 +91,12 @@ pub record GivesUp (m : Model) (w v : Memory) : Type 0 where
 abbrev pub FrameGivenUp : Type 0
 FrameGivenUp =
     (m : Model) (w : Memory) → Sized m (w .unit) → (p : Play) (s k : Slice) → answerOf m w (ask (start p) s k) ≡ Accepted
-    → (rs : List Request) → Worked m (opened m w p s k) rs → let v = requests m (opened m w p s k) rs in
+    → (rs : List Request) → Worked m (afterOpen m w p s k) rs → let v = requests m (afterOpen m w p s k) rs in
     ((s′ k′ : Slice) → GivesUp m w (seen v s′ k′)) × (v .store ≡ w .store)
 
 -- from an accepted fresh on, with no premise on lists
 abbrev pub FrameGivenUpFromFresh : Type 0
 FrameGivenUpFromFresh =
     (w : Memory) → FromFresh w → (p : Play) (s k : Slice) → answerOf wall w (ask (start p) s k) ≡ Accepted
-    → (rs : List Request) → Worked wall (opened wall w p s k) rs → let v = requests wall (opened wall w p s k) rs in
+    → (rs : List Request) → Worked wall (afterOpen wall w p s k) rs → let v = requests wall (afterOpen wall w p s k) rs in
     ((s′ k′ : Slice) → GivesUp wall w (seen v s′ k′)) × (v .store ≡ w .store)

@@ -33,8 +33,8 @@ pub record Account : Type 0 where
   pub waiting : List Float
 
 -- R8.20: an accepted frame hands out the row read and is given the row put
-abbrev pub turned : Account → List Float → List Float → Account
-turned a read put = record { out = a .out ++ read; given = a .given ++ put; waiting = a .waiting }
+abbrev pub traded : Account → List Float → List Float → Account
+traded a read put = record { out = a .out ++ read; given = a .given ++ put; waiting = a .waiting }
 
 -- a whole call's rows are its frame's. Of jobs, the row read is what the accepted read i left in the work memory lent to it: it waits, and is
 -- handed out by the accepted close of its frame, or never where the frame is abandoned or answered 9. (No close is accepted before a read i of
@@ -44,7 +44,7 @@ noted m i w a reset = a
 noted m i w a (whole p output) =
     let f = w .unit .settings .frame in
     let r = frameFor m (w .unit) p (w .store) in
-    accept (answer m w (whole p output)) (turned a (row f i (r .reads)) (row f i (r .lines .put))) a
+    accept (answer m w (whole p output)) (traded a (row f i (r .reads)) (row f i (r .lines .put))) a
 noted m i w a (start p) = a
 noted m i w a (job (readJob j)) =
     let f = w .unit .settings .frame in
@@ -55,7 +55,7 @@ noted m i w a (job (lineJob j)) = a
 noted m i w a (job outputJob) = a
 noted m i w a (close output) =
     let f = w .unit .settings .frame in
-    accept (answer m w (close output)) (turned a (a .waiting) (row f i (rowsOf m f (w .work) .mixed))) a
+    accept (answer m w (close output)) (traded a (a .waiting) (row f i (rowsOf m f (w .work) .mixed))) a
 noted m i w a abandon = a
 
 -- over a list of requests

@@ -41,8 +41,8 @@ unfoldable pub facedValue : Value → HallValue
 facedValue v = record { number = numberOf (v .answer); value = v .value }
 
 -- what C passes number by number: the times of the three bands, and four samples
-abbrev pub times : Float → Float → Float → Times
-times t0 t1 t2 = record { low = t0; mid = t1; high = t2 }
+abbrev pub timesOf : Float → Float → Float → Times
+timesOf t0 t1 t2 = record { low = t0; mid = t1; high = t2 }
 
 abbrev pub four : Float → Float → Float → Float → Four
 four x0 x1 x2 x3 = record { 0 = x0; 1 = x1; 2 = x2; 3 = x3 }

@@ -6,8 +6,8 @@ ghost use Rattle.samples.specs.Binary32.{+0};
 ghost use Rattle.samples.specs.Answers.{numberOf, accept};
 ghost use Rattle.audio_buffer.specs.Judges.{judgedTwo, judgedChannel};
 ghost use Rattle.audio_buffer.specs.Layout.{interleaved, deinterleaved};
-ghost use Rattle.levels.specs.Judges.{judged, judgedDownmix};
-ghost use Rattle.levels.specs.Levels.{scaled, mixed, downmixed};
+ghost use Rattle.levels.specs.Judges.{judgedOne, judgedDownmix};
+ghost use Rattle.levels.specs.Levels.{scaled, buffersMixed, downmixed};
 
 // Writes a buffer frame after frame (R7.2).
 #[no_mangle]
@@ -40,8 +40,8 @@ pub extern "C" fn hall_deinterleave(
 // Sets every sample of a buffer to +0 (R7.4).
 #[no_mangle]
 pub extern "C" fn hall_make_silent(channels: usize, samples: usize, buffer: &mut [f32]) -> u32
-    ensures { λ r. ⌜ r ≡ numberOf (judged channels samples (length (now (buffer .entry)))) ⌝ }
-    ensures { λ _. ⌜ now (buffer .exit) ≡ accept (judged channels samples (length (now (buffer .entry)))) (replicate (length (now (buffer .entry))) +0) (now (buffer .entry)) ⌝ }
+    ensures { λ r. ⌜ r ≡ numberOf (judgedOne channels samples (length (now (buffer .entry)))) ⌝ }
+    ensures { λ _. ⌜ now (buffer .exit) ≡ accept (judgedOne channels samples (length (now (buffer .entry)))) (replicate (length (now (buffer .entry))) +0) (now (buffer .entry)) ⌝ }
 {
     number(levels::make_silent(channels, samples, buffer))
 }
@@ -54,8 +54,8 @@ pub extern "C" fn hall_scale(
     volume: f32,
     buffer: &mut [f32],
 ) -> u32
-    ensures { λ r. ⌜ r ≡ numberOf (judged channels samples (length (now (buffer .entry)))) ⌝ }
-    ensures { λ _. ⌜ now (buffer .exit) ≡ accept (judged channels samples (length (now (buffer .entry)))) (scaled volume (now (buffer .entry))) (now (buffer .entry)) ⌝ }
+    ensures { λ r. ⌜ r ≡ numberOf (judgedOne channels samples (length (now (buffer .entry)))) ⌝ }
+    ensures { λ _. ⌜ now (buffer .exit) ≡ accept (judgedOne channels samples (length (now (buffer .entry)))) (scaled volume (now (buffer .entry))) (now (buffer .entry)) ⌝ }
 {
     number(levels::scale(channels, samples, volume, buffer))
 }
@@ -69,7 +69,7 @@ pub extern "C" fn hall_buffer_mix(
     other: &mut [f32],
 ) -> u32
     ensures { λ r. ⌜ r ≡ numberOf (judgedTwo channels samples (length (now (buffer .entry))) (length (now (other .entry)))) ⌝ }
-    ensures { λ _. ⌜ now (other .exit) ≡ accept (judgedTwo channels samples (length (now (buffer .entry))) (length (now (other .entry)))) (mixed (now (buffer .entry)) (now (other .entry))) (now (other .entry)) ⌝ }
+    ensures { λ _. ⌜ now (other .exit) ≡ accept (judgedTwo channels samples (length (now (buffer .entry))) (length (now (other .entry)))) (buffersMixed (now (buffer .entry)) (now (other .entry))) (now (other .entry)) ⌝ }
 {
     number(levels::mix(channels, samples, buffer, other))
 }

@@ -6,15 +6,15 @@ use unit::State;
 ghost use mathlib.Core.Path.{_≡_};
 ghost use mathlib.Core.List.{[]};
 ghost use Rattle.unit.specs.Model.{wall};
-ghost use Rattle.machine.specs.Ending.{lend, given};
+ghost use Rattle.machine.specs.Ending.{lend, outcomeOf};
 ghost use Rattle.machine.specs.Whole as Play;
 ghost use Rattle.machine.specs.Whole.{begun, silenced, atOnce};
-ghost use Rattle.hall.specs.Face.{faced, times};
+ghost use Rattle.hall.specs.Face.{faced, timesOf};
 
 // A unit in which nothing has sounded yet, and its store cleared (R2.20, R4.24).
 #[no_mangle]
 pub extern "C" fn hall_fresh(rate: u32, frame: usize, store: &mut [f32]) -> HallAnswer
-    ensures { λ r. ⌜ r ≡ faced (given (begun wall rate frame (now (store .entry)))) ⌝ }
+    ensures { λ r. ⌜ r ≡ faced (outcomeOf (begun wall rate frame (now (store .entry)))) ⌝ }
     ensures { λ _. ⌜ now (store .exit) ≡ begun wall rate frame (now (store .entry)) .memory .store ⌝ }
 {
     faced(reverb::fresh(rate, frame, store))
@@ -24,7 +24,7 @@ pub extern "C" fn hall_fresh(rate: u32, frame: usize, store: &mut [f32]) -> Hall
 // stay (R2.21, R4.25).
 #[no_mangle]
 pub extern "C" fn hall_reset(s: State, store: &mut [f32]) -> HallAnswer
-    ensures { λ r. ⌜ r ≡ faced (given (silenced wall (lend s (now (store .entry)) []))) ⌝ }
+    ensures { λ r. ⌜ r ≡ faced (outcomeOf (silenced wall (lend s (now (store .entry)) []))) ⌝ }
     ensures { λ _. ⌜ now (store .exit) ≡ silenced wall (lend s (now (store .entry)) []) .memory .store ⌝ }
 {
     faced(reverb::reset(s, store))
@@ -44,10 +44,10 @@ pub extern "C" fn hall_apply(
     work: &mut [f32],
     output: &mut [f32],
 ) -> HallAnswer
-    ensures { λ r. ⌜ r ≡ faced (given (atOnce wall (lend s (now (store .entry)) (now (work .entry))) (Play.apply (times t0 t1 t2) (now (coefficients .entry)) (now (input .entry))) (now (output .entry)))) ⌝ }
-    ensures { λ _. ⌜ now (store .exit) ≡ atOnce wall (lend s (now (store .entry)) (now (work .entry))) (Play.apply (times t0 t1 t2) (now (coefficients .entry)) (now (input .entry))) (now (output .entry)) .memory .store ⌝ }
-    ensures { λ _. ⌜ now (work .exit) ≡ atOnce wall (lend s (now (store .entry)) (now (work .entry))) (Play.apply (times t0 t1 t2) (now (coefficients .entry)) (now (input .entry))) (now (output .entry)) .memory .work ⌝ }
-    ensures { λ _. ⌜ now (output .exit) ≡ atOnce wall (lend s (now (store .entry)) (now (work .entry))) (Play.apply (times t0 t1 t2) (now (coefficients .entry)) (now (input .entry))) (now (output .entry)) .output ⌝ }
+    ensures { λ r. ⌜ r ≡ faced (outcomeOf (atOnce wall (lend s (now (store .entry)) (now (work .entry))) (Play.apply (timesOf t0 t1 t2) (now (coefficients .entry)) (now (input .entry))) (now (output .entry)))) ⌝ }
+    ensures { λ _. ⌜ now (store .exit) ≡ atOnce wall (lend s (now (store .entry)) (now (work .entry))) (Play.apply (timesOf t0 t1 t2) (now (coefficients .entry)) (now (input .entry))) (now (output .entry)) .memory .store ⌝ }
+    ensures { λ _. ⌜ now (work .exit) ≡ atOnce wall (lend s (now (store .entry)) (now (work .entry))) (Play.apply (timesOf t0 t1 t2) (now (coefficients .entry)) (now (input .entry))) (now (output .entry)) .memory .work ⌝ }
+    ensures { λ _. ⌜ now (output .exit) ≡ atOnce wall (lend s (now (store .entry)) (now (work .entry))) (Play.apply (timesOf t0 t1 t2) (now (coefficients .entry)) (now (input .entry))) (now (output .entry)) .output ⌝ }
 {
     let t = Times {
         low: t0,
@@ -66,7 +66,7 @@ pub extern "C" fn hall_tail(
     work: &mut [f32],
     output: &mut [f32],
 ) -> HallAnswer
-    ensures { λ r. ⌜ r ≡ faced (given (atOnce wall (lend s (now (store .entry)) (now (work .entry))) Play.tail (now (output .entry)))) ⌝ }
+    ensures { λ r. ⌜ r ≡ faced (outcomeOf (atOnce wall (lend s (now (store .entry)) (now (work .entry))) Play.tail (now (output .entry)))) ⌝ }
     ensures { λ _. ⌜ now (store .exit) ≡ atOnce wall (lend s (now (store .entry)) (now (work .entry))) Play.tail (now (output .entry)) .memory .store ⌝ }
     ensures { λ _. ⌜ now (work .exit) ≡ atOnce wall (lend s (now (store .entry)) (now (work .entry))) Play.tail (now (output .entry)) .memory .work ⌝ }
     ensures { λ _. ⌜ now (output .exit) ≡ atOnce wall (lend s (now (store .entry)) (now (work .entry))) Play.tail (now (output .entry)) .output ⌝ }

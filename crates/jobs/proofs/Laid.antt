@@ -26,7 +26,7 @@ use Rattle.unit.specs.Range.{inRange, cursorsIn}
 use Rattle.unit.specs.Room.{ringsHold}
 use Rattle.unit.proofs.Ranges.{lengths-long}
 use Rattle.judges.specs.Judges.{judged, workOk}
-use Rattle.rows.specs.Rows.{rowsOf, joined}
+use Rattle.rows.specs.Rows.{rowsOf, joinedRows}
 use Rattle.rows.specs.Fits.{workFor}
 use Rattle.rows.specs.Workers.{WorkFits}
 use Rattle.rows.specs.Parts.{lineLaid, lineEnds}
@@ -64,7 +64,7 @@ module _ (f : ℕ) (w : List Float) (h : WorkFits wall f (length w)) where
   pub mix-laid : (x : List Float) (a : Answer)
       → let v = take (33 * f - f) (drop f w) in
       (a ≡ judgedRows 16 (length v)) × (x ≡ accept a (rowsMixed 16 (wall .factor) v) v) → putMid f (33 * f - f) w x ≡ mixLaid wall f w
-  unfolding mixLaid rowsOf joined
+  unfolding mixLaid rowsOf joinedRows
   mix-laid x a e =
       let all : w ≡ take f w ++ ((reads ++ mixed) ++ rest) = all-rows f w ∙ ap (λ (l : List Float). take f w ++ l) (sym (append-assoc reads mixed rest)) in
       let both : length (reads ++ mixed) ≡ k + k = length-append reads mixed ∙ (λ i. length-reads i + length-mixed i) in

@@ -23,12 +23,12 @@ use unit::quiet;
 ghost use mathlib.Core.Path.{_≡_};
 ghost use mathlib.Core.List.{[]};
 ghost use Rattle.unit.specs.Model.{wall};
-ghost use Rattle.machine.specs.Ending.{lend, given};
+ghost use Rattle.machine.specs.Ending.{lend, outcomeOf};
 ghost use Rattle.machine.specs.Jobs.{readJob, mixJob, lineJob, outputJob, done};
 
 // Reads a frame of a line (R2.26, R5.11).
 pub fn job_read(s: State, line: usize, store: &[f32], work: &mut [f32]) -> Outcome
-    ensures { λ r. ⌜ r ≡ given (done wall (lend s (now (store .entry)) (now (work .entry))) (readJob line)) ⌝ }
+    ensures { λ r. ⌜ r ≡ outcomeOf (done wall (lend s (now (store .entry)) (now (work .entry))) (readJob line)) ⌝ }
     ensures { λ _. ⌜ now (work .exit) ≡ done wall (lend s (now (store .entry)) (now (work .entry))) (readJob line) .memory .work ⌝ }
 {
     let answer = judge_read(s, line, store.len(), work.len());
@@ -46,7 +46,7 @@ pub fn job_read(s: State, line: usize, store: &[f32], work: &mut [f32]) -> Outco
 
 // Mixes the lines read (R2.27, R5.12).
 pub fn job_mix(s: State, work: &mut [f32]) -> Outcome
-    ensures { λ r. ⌜ r ≡ given (done wall (lend s [] (now (work .entry))) mixJob) ⌝ }
+    ensures { λ r. ⌜ r ≡ outcomeOf (done wall (lend s [] (now (work .entry))) mixJob) ⌝ }
     ensures { λ _. ⌜ now (work .exit) ≡ done wall (lend s [] (now (work .entry))) mixJob .memory .work ⌝ }
 {
     let answer = judge_mix(s, work.len());
@@ -61,7 +61,7 @@ pub fn job_mix(s: State, work: &mut [f32]) -> Outcome
 
 // Sends a line mixed through its bands, and adds the input to it unless in a tail (R2.28, R5.13).
 pub fn job_line(s: State, line: usize, work: &mut [f32]) -> Outcome
-    ensures { λ r. ⌜ r ≡ given (done wall (lend s [] (now (work .entry))) (lineJob line)) ⌝ }
+    ensures { λ r. ⌜ r ≡ outcomeOf (done wall (lend s [] (now (work .entry))) (lineJob line)) ⌝ }
     ensures { λ _. ⌜ now (work .exit) ≡ done wall (lend s [] (now (work .entry))) (lineJob line) .memory .work ⌝ }
 {
     let answer = judge_line(s, line, work.len());
@@ -77,7 +77,7 @@ pub fn job_line(s: State, line: usize, work: &mut [f32]) -> Outcome
 
 // Makes the output of the lines read (R2.29, R5.14).
 pub fn job_output(s: State, work: &mut [f32]) -> Outcome
-    ensures { λ r. ⌜ r ≡ given (done wall (lend s [] (now (work .entry))) outputJob) ⌝ }
+    ensures { λ r. ⌜ r ≡ outcomeOf (done wall (lend s [] (now (work .entry))) outputJob) ⌝ }
     ensures { λ _. ⌜ now (work .exit) ≡ done wall (lend s [] (now (work .entry))) outputJob .memory .work ⌝ }
 {
     let answer = judge_output(s, work.len());

@@ -8,10 +8,10 @@ use Rattle.iir.specs.Runs.{bandsOut, bandsEnd}
 use Rattle.iir.proofs.Laws.{peel, peel-end}
 use Rattle.lanes.specs.declared.four.Four.{Four}
 use Rattle.lanes.specs.declared.lanes.Lanes.{Lanes}
-use Rattle.lanes.specs.declared.bank.Bank.{Bank}
+use Rattle.lanes.specs.declared.band_lanes.BandLanes.{BandLanes}
 use Rattle.lanes.specs.Four.{at}
 use Rattle.lanes.specs.Lanes.{lane, stepAll}
-use Rattle.lanes.specs.Bank.{bandsAt, stepBank}
+use Rattle.lanes.specs.BandLanes.{bandsAt, stepBands}
 
 -- line k's filter after the step is its filter's step
 pub lane-step : (k : ℕ) (l : Lanes) (x : Four) → lane k (stepAll l x) ≡ step (lane k l) (at k x)
@@ -22,19 +22,19 @@ lane-step (suc (suc zero)) l x = refl
 lane-step (suc (suc (suc k))) l x = refl
 
 -- one sample of line k's row goes through its three bands
-module _ (k : ℕ) (g : Bank) (x : Four) {l r : List Float} (e : l ≡ at k x ∷ r) where
-  pub bank-out : bandsOut (bandsAt k g) l ≡ at k (stepBank g x .l2 .y1) ∷ bandsOut (bandsAt k (stepBank g x)) r
-  unfolding bandsOut stepBank lane
+module _ (k : ℕ) (g : BandLanes) (x : Four) {l r : List Float} (e : l ≡ at k x ∷ r) where
+  pub bank-out : bandsOut (bandsAt k g) l ≡ at k (stepBands g x .l2 .y1) ∷ bandsOut (bandsAt k (stepBands g x)) r
+  unfolding bandsOut stepBands lane
   bank-out =
-      let h = stepBank g x in
+      let h = stepBands g x in
       let p0 = peel (lane k (g .l0)) (lane-step k (g .l0) x) e in
       let p1 = peel (lane k (g .l1)) (lane-step k (g .l1) (h .l0 .y1)) p0 in
       peel (lane k (g .l2)) (lane-step k (g .l2) (h .l1 .y1)) p1
 
-  pub bank-end : bandsEnd (bandsAt k g) l ≡ bandsEnd (bandsAt k (stepBank g x)) r
-  unfolding bandsEnd stepBank lane
+  pub bank-end : bandsEnd (bandsAt k g) l ≡ bandsEnd (bandsAt k (stepBands g x)) r
+  unfolding bandsEnd stepBands lane
   bank-end =
-      let h = stepBank g x in
+      let h = stepBands g x in
       let p0 = peel (lane k (g .l0)) (lane-step k (g .l0) x) e in
       let p1 = peel (lane k (g .l1)) (lane-step k (g .l1) (h .l0 .y1)) p0 in
       λ i. record {

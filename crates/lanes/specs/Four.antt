@@ -15,6 +15,6 @@ at (suc (suc zero)) a = a .v2
 at (suc (suc (suc k))) a = a .v3
 
 -- op of two such, line by line
-abbrev pub each : (Float → Float → Float) → Four → Four → Four
-each op a b =
+abbrev pub lanewise : (Float → Float → Float) → Four → Four → Four
+lanewise op a b =
     record { v0 = op (a .v0) (b .v0); v1 = op (a .v1) (b .v1); v2 = op (a .v2) (b .v2); v3 = op (a .v3) (b .v3) }

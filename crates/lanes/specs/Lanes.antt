@@ -4,7 +4,7 @@ use Rattle.samples.specs.Binary32.{_⊕_, _⊖_, _⊗_}
 use Rattle.iir.specs.declared.Filter.{Filter}
 use Rattle.lanes.specs.declared.four.Four.{Four}
 use Rattle.lanes.specs.declared.lanes.Lanes.{Lanes}
-use Rattle.lanes.specs.Four.{beside, at, each}
+use Rattle.lanes.specs.Four.{beside, at, lanewise}
 
 -- four filters side by side
 unfoldable pub packed : Filter → Filter → Filter → Filter → Lanes
@@ -39,6 +39,6 @@ lane k l =
 -- R3.21, R3.22: each line's filter after one sample
 unfoldable pub stepAll : Lanes → Four → Lanes
 stepAll l x =
-    let ins = each _⊕_ (each _⊕_ (each _⊗_ (l .b0) x) (each _⊗_ (l .b1) (l .x1))) (each _⊗_ (l .b2) (l .x2)) in
-    let out = each _⊖_ (each _⊖_ ins (each _⊗_ (l .a1) (l .y1))) (each _⊗_ (l .a2) (l .y2)) in
+    let ins = lanewise _⊕_ (lanewise _⊕_ (lanewise _⊗_ (l .b0) x) (lanewise _⊗_ (l .b1) (l .x1))) (lanewise _⊗_ (l .b2) (l .x2)) in
+    let out = lanewise _⊖_ (lanewise _⊖_ ins (lanewise _⊗_ (l .a1) (l .y1))) (lanewise _⊗_ (l .a2) (l .y2)) in
     record { a1 = l .a1; a2 = l .a2; b0 = l .b0; b1 = l .b1; b2 = l .b2; x1 = x; x2 = l .x1; y1 = out; y2 = l .y1 }

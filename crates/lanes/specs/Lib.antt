@@ -1,3 +1,3 @@
 pub mod Four
 pub mod Lanes
-pub mod Bank
+pub mod BandLanes

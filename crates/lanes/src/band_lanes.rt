@@ -6,7 +6,7 @@ use crate::lanes::pack;
 use crate::lanes::step;
 use iir::Bands;
 ghost use mathlib.Core.Path.{_≡_};
-ghost use Rattle.lanes.specs.Bank.{bankOf, bandsAt, stepBank};
+ghost use Rattle.lanes.specs.BandLanes.{byBand, bandsAt, stepBands};
 
 // The bands of four lines.
 pub struct FourBands {
@@ -17,21 +17,21 @@ pub struct FourBands {
 }
 
 // Band 0 of four lines, band 1 and band 2.
-pub struct Bank {
+pub struct BandLanes {
     pub l0: Lanes,
     pub l1: Lanes,
     pub l2: Lanes,
 }
 
 // The bands of four lines, band by band.
-pub fn by_band(b: FourBands) -> Bank
-    ensures { λ r. ⌜ r ≡ bankOf b ⌝ }
+pub fn by_band(b: FourBands) -> BandLanes
+    ensures { λ r. ⌜ r ≡ byBand b ⌝ }
 {
     let f = b.b0;
     let g = b.b1;
     let h = b.b2;
     let k = b.b3;
-    Bank {
+    BandLanes {
         l0: pack(f.f0, g.f0, h.f0, k.f0),
         l1: pack(f.f1, g.f1, h.f1, k.f1),
         l2: pack(f.f2, g.f2, h.f2, k.f2),
@@ -39,7 +39,7 @@ pub fn by_band(b: FourBands) -> Bank
 }
 
 // The bands of line k.
-pub fn bands_at(k: usize, g: Bank) -> Bands
+pub fn bands_at(k: usize, g: BandLanes) -> Bands
     ensures { λ r. ⌜ r ≡ bandsAt k g ⌝ }
 {
     Bands {
@@ -50,11 +50,11 @@ pub fn bands_at(k: usize, g: Bank) -> Bands
 }
 
 // One sample of each line through the bands (R3.25).
-pub fn step_bank(g: Bank, x: Four) -> Bank
-    ensures { λ r. ⌜ r ≡ stepBank g x ⌝ }
+pub fn step_bands(g: BandLanes, x: Four) -> BandLanes
+    ensures { λ r. ⌜ r ≡ stepBands g x ⌝ }
 {
     let l0 = step(g.l0, x);
     let l1 = step(g.l1, l0.y1);
     let l2 = step(g.l2, l1.y1);
-    Bank { l0, l1, l2 }
+    BandLanes { l0, l1, l2 }
 }

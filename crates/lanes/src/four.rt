@@ -1,7 +1,7 @@
 // Four numbers, one of each line, and what is done to all four at once.
 ghost use mathlib.Core.Path.{_≡_};
 ghost use Rattle.samples.specs.Binary32.{_⊕_, _⊖_, _⊗_};
-ghost use Rattle.lanes.specs.Four.{beside, at, each};
+ghost use Rattle.lanes.specs.Four.{beside, at, lanewise};
 
 // A number of each of four lines.
 pub struct Four {
@@ -35,7 +35,7 @@ pub(crate) fn at(k: usize, a: Four) -> f32
 
 // Line by line, a + b.
 pub(crate) fn add(a: Four, b: Four) -> Four
-    ensures { λ r. ⌜ r ≡ each _⊕_ a b ⌝ }
+    ensures { λ r. ⌜ r ≡ lanewise _⊕_ a b ⌝ }
 {
     Four {
         v0: a.v0 + b.v0,
@@ -47,7 +47,7 @@ pub(crate) fn add(a: Four, b: Four) -> Four
 
 // Line by line, a - b.
 pub(crate) fn sub(a: Four, b: Four) -> Four
-    ensures { λ r. ⌜ r ≡ each _⊖_ a b ⌝ }
+    ensures { λ r. ⌜ r ≡ lanewise _⊖_ a b ⌝ }
 {
     Four {
         v0: a.v0 - b.v0,
@@ -59,7 +59,7 @@ pub(crate) fn sub(a: Four, b: Four) -> Four
 
 // Line by line, a * b.
 pub(crate) fn mul(a: Four, b: Four) -> Four
-    ensures { λ r. ⌜ r ≡ each _⊗_ a b ⌝ }
+    ensures { λ r. ⌜ r ≡ lanewise _⊗_ a b ⌝ }
 {
     Four {
         v0: a.v0 * b.v0,

@@ -2,15 +2,15 @@
 // step of the four is one step on vectors of four.
 //
 // Its contracts cite `specs/`: four filters side by side, their step, and three bands of such.
-mod bank;
+mod band_lanes;
 mod four;
 mod lanes;
 
-pub use bank::Bank;
-pub use bank::FourBands;
-pub use bank::bands_at;
-pub use bank::by_band;
-pub use bank::step_bank;
+pub use band_lanes::BandLanes;
+pub use band_lanes::FourBands;
+pub use band_lanes::bands_at;
+pub use band_lanes::by_band;
+pub use band_lanes::step_bands;
 pub use four::Four;
 pub use lanes::Lanes;
 pub use lanes::lane;

@@ -9,11 +9,11 @@ use lib.ListN.{take, drop}
 use lib.Seq.{drop-drop}
 use lib.Ieee.{Float, binary32, inFloat}
 use Rattle.samples.proofs.Turns.{more}
-use Rattle.levels.specs.Levels.{mixed, summed}
+use Rattle.levels.specs.Levels.{buffersMixed, channelsSummed}
 
 -- of the sum of the channels from `at` on: the next channel
 pub summed-more : (samples at : ℕ) (buffer row : List Float) (n i : ℕ) → i < n
-    → summed samples (n - i) row (drop at buffer) ≡ summed samples (n - (i + 1)) (mixed (take samples (drop at buffer)) row) (drop (at + samples) buffer)
+    → channelsSummed samples (n - i) row (drop at buffer) ≡ channelsSummed samples (n - (i + 1)) (buffersMixed (take samples (drop at buffer)) row) (drop (at + samples) buffer)
 summed-more samples at buffer row n i h = rw (more n i h, ← drop-drop samples at buffer)
 
 -- so few channels are a float exactly

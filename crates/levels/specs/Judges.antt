@@ -4,13 +4,13 @@ use lib.Dec.{eqb}
 use Rattle.samples.specs.declared.Answer.{Answer}
 use Rattle.samples.specs.declared.Answer.the-variants.{Accepted, BadLength, BadIndex}
 use Rattle.samples.specs.Answers.{need}
-use Rattle.audio_buffer.specs.Judges.{samplesOk, judgedThen}
+use Rattle.audio_buffer.specs.Judges.{samplesOk, judgedBufferThen}
 
 -- R7.10, R7.11: a call that is lent one buffer
-abbrev pub judged : ℕ → ℕ → ℕ → Answer
-judged channels samples len = judgedThen channels samples len Accepted
+abbrev pub judgedOne : ℕ → ℕ → ℕ → Answer
+judgedOne channels samples len = judgedBufferThen channels samples len Accepted
 
 -- R7.12: downmix. The output's length goes by the samples alone, so it is judged before the channels
 unfoldable pub judgedDownmix : ℕ → ℕ → ℕ → ℕ → Answer
 judgedDownmix channels samples len output =
-    need (samplesOk samples) BadIndex (need (eqb output samples) BadLength (judgedThen channels samples len Accepted))
+    need (samplesOk samples) BadIndex (need (eqb output samples) BadLength (judgedBufferThen channels samples len Accepted))

@@ -8,8 +8,8 @@ ghost use lib.ListN.{length, replicate};
 ghost use Rattle.samples.specs.Binary32.{+0};
 ghost use Rattle.samples.specs.Answers.{accept};
 ghost use Rattle.audio_buffer.specs.Judges.{judgedTwo};
-ghost use Rattle.levels.specs.Judges.{judged, judgedDownmix};
-ghost use Rattle.levels.specs.Levels.{scaled, mixed, summed, downmixed};
+ghost use Rattle.levels.specs.Judges.{judgedOne, judgedDownmix};
+ghost use Rattle.levels.specs.Levels.{scaled, buffersMixed, channelsSummed, downmixed};
 use audio_buffer::MOST_SAMPLES;
 use audio_buffer::judge_then;
 use audio_buffer::judge_two;
@@ -42,7 +42,7 @@ fn amplify(volume: f32, xs: &mut [f32])
 // Adds each sample to the other row's sample at its place.
 fn add(xs: &[f32], other: &mut [f32])
     requires { ⌜ length (now xs) ≡ length (now other) ⌝ }
-    ensures { λ _. ⌜ now (other .exit) ≡ mixed (now (xs .entry)) (now (other .entry)) ⌝ }
+    ensures { λ _. ⌜ now (other .exit) ≡ buffersMixed (now (xs .entry)) (now (other .entry)) ⌝ }
 {
     for i in 0..xs.len() {
         other[i] = other[i] + xs[i];
@@ -52,7 +52,7 @@ fn add(xs: &[f32], other: &mut [f32])
 // Adds every channel of a buffer to a row, in order.
 fn add_channels(channels: usize, samples: usize, buffer: &[f32], row: &mut [f32])
     requires { ⌜ (length (now buffer) ≡ channels * samples) × (length (now row) ≡ samples) ⌝ }
-    ensures { λ _. ⌜ now (row .exit) ≡ summed samples channels (now (row .entry)) (now (buffer .entry)) ⌝ }
+    ensures { λ _. ⌜ now (row .exit) ≡ channelsSummed samples channels (now (row .entry)) (now (buffer .entry)) ⌝ }
 {
     let mut at = 0;
     for i in 0..channels {
@@ -75,8 +75,8 @@ fn average(channels: usize, samples: usize, buffer: &[f32], output: &mut [f32])
 
 // Sets every sample of a buffer to +0 (R7.4).
 pub fn make_silent(channels: usize, samples: usize, buffer: &mut [f32]) -> Answer
-    ensures { λ r. ⌜ r ≡ judged channels samples (length (now (buffer .entry))) ⌝ }
-    ensures { λ _. ⌜ now (buffer .exit) ≡ accept (judged channels samples (length (now (buffer .entry)))) (replicate (length (now (buffer .entry))) +0) (now (buffer .entry)) ⌝ }
+    ensures { λ r. ⌜ r ≡ judgedOne channels samples (length (now (buffer .entry))) ⌝ }
+    ensures { λ _. ⌜ now (buffer .exit) ≡ accept (judgedOne channels samples (length (now (buffer .entry)))) (replicate (length (now (buffer .entry))) +0) (now (buffer .entry)) ⌝ }
 {
     let answer = judge_then(channels, samples, buffer.len(), Answer::Accepted);
     if is_accepted(answer) {
@@ -87,8 +87,8 @@ pub fn make_silent(channels: usize, samples: usize, buffer: &mut [f32]) -> Answe
 
 // Multiplies every sample of a buffer by a volume (R7.5).
 pub fn scale(channels: usize, samples: usize, volume: f32, buffer: &mut [f32]) -> Answer
-    ensures { λ r. ⌜ r ≡ judged channels samples (length (now (buffer .entry))) ⌝ }
-    ensures { λ _. ⌜ now (buffer .exit) ≡ accept (judged channels samples (length (now (buffer .entry)))) (scaled volume (now (buffer .entry))) (now (buffer .entry)) ⌝ }
+    ensures { λ r. ⌜ r ≡ judgedOne channels samples (length (now (buffer .entry))) ⌝ }
+    ensures { λ _. ⌜ now (buffer .exit) ≡ accept (judgedOne channels samples (length (now (buffer .entry)))) (scaled volume (now (buffer .entry))) (now (buffer .entry)) ⌝ }
 {
     let answer = judge_then(channels, samples, buffer.len(), Answer::Accepted);
     if is_accepted(answer) {
@@ -100,7 +100,7 @@ pub fn scale(channels: usize, samples: usize, volume: f32, buffer: &mut [f32]) -
 // Adds a buffer to another (R7.6).
 pub fn mix(channels: usize, samples: usize, buffer: &[f32], other: &mut [f32]) -> Answer
     ensures { λ r. ⌜ r ≡ judgedTwo channels samples (length (now (buffer .entry))) (length (now (other .entry))) ⌝ }
-    ensures { λ _. ⌜ now (other .exit) ≡ accept (judgedTwo channels samples (length (now (buffer .entry))) (length (now (other .entry)))) (mixed (now (buffer .entry)) (now (other .entry))) (now (other .entry)) ⌝ }
+    ensures { λ _. ⌜ now (other .exit) ≡ accept (judgedTwo channels samples (length (now (buffer .entry))) (length (now (other .entry)))) (buffersMixed (now (buffer .entry)) (now (other .entry))) (now (other .entry)) ⌝ }
 {
     let answer = judge_two(channels, samples, buffer.len(), other.len());
     if is_accepted(answer) {

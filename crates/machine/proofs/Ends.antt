@@ -18,12 +18,12 @@ use Rattle.unit.specs.Outcome.{outcome}
 use Rattle.unit.specs.Model.{Model}
 use Rattle.stages.specs.Frame.{Frame, newFilters}
 use Rattle.stages.specs.Settle.{frameFinite, settled}
-use Rattle.machine.specs.Ending.{Memory, Ending, given, refused, quietly}
+use Rattle.machine.specs.Ending.{Memory, Ending, outcomeOf, refused, quietly}
 use Rattle.machine.specs.Whole.{movedOn, played}
 
 -- x is what a call gives, and store, work and output are what it leaves, where it ends in e
 abbrev pub Ends : Ending → Outcome → List Float → List Float → List Float → Type 0
-Ends e x store work output = (x ≡ given e) × ((store ≡ e .memory .store) × ((work ≡ e .memory .work) × (output ≡ e .output)))
+Ends e x store work output = (x ≡ outcomeOf e) × ((store ≡ e .memory .store) × ((work ≡ e .memory .work) × (output ≡ e .output)))
 
 -- ---- a call that is lent an output
 
@@ -39,12 +39,12 @@ ends-let-by due new old x store work output h p = rw (accept-yes due new old h) 
 -- ---- a call that leaves no tail to wait for
 
 module _ (due a : Answer) (new old : Memory) (x : Outcome) (e : a ≡ due) where
-  pub quiet-refused : accepted due ≡ false → x ≡ outcome a (old .unit) TailComplete → (x ≡ given (quietly due new old)) × (old ≡ quietly due new old .memory)
+  pub quiet-refused : accepted due ≡ false → x ≡ outcome a (old .unit) TailComplete → (x ≡ outcomeOf (quietly due new old)) × (old ≡ quietly due new old .memory)
   quiet-refused h q =
       let m = sym (accept-no due new old h) in
       (q ∙ (λ i. outcome (e i) (m i .unit) TailComplete), m)
 
-  pub quiet-let-by : accepted due ≡ true → x ≡ outcome a (new .unit) TailComplete → (x ≡ given (quietly due new old)) × (new ≡ quietly due new old .memory)
+  pub quiet-let-by : accepted due ≡ true → x ≡ outcome a (new .unit) TailComplete → (x ≡ outcomeOf (quietly due new old)) × (new ≡ quietly due new old .memory)
   quiet-let-by h q =
       let m = sym (accept-yes due new old h) in
       (q ∙ (λ i. outcome (e i) (m i .unit) TailComplete), m)

@@ -29,8 +29,8 @@ pub record Ending : Type 0 where
   pub output : List Float
 
 -- what the caller is given of it beside the memory lent
-abbrev pub given : Ending → Outcome
-given e = outcome (e .answer) (e .memory .unit) (e .verdict)
+abbrev pub outcomeOf : Ending → Outcome
+outcomeOf e = outcome (e .answer) (e .memory .unit) (e .verdict)
 
 -- R2.32, R2.34: a refused call leaves the memory w, and its verdict is TailComplete
 abbrev pub refused : Answer → Memory → List Float → Ending

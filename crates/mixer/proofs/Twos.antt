@@ -16,7 +16,7 @@ use Rattle.samples.proofs.Lists.{over-set}
 use Rattle.samples.proofs.Rows.{row-ends}
 use Rattle.hadamard.specs.Mix.{minus, plusMinus, sumFrom, sumOf, mixAt, joined, each}
 use Rattle.hadamard.specs.Rows.{column, mixedRow}
-use Rattle.mixer.specs.Passes.{laid, laidTwo, pass, crossed, summed, summedTwo, rowSum, mixedAt}
+use Rattle.mixer.specs.Passes.{rowLaid, rowsLaid, pass, crossed, summed, summedTwo, rowSum, mixedAt}
 use Rattle.hadamard.proofs.Columns.{column-ext}
 use Rattle.hadamard.proofs.Laws.{row-ext}
 use Rattle.mixer.proofs.Passes.{laid-none, laid-ext, laid-before, laid-at, laid-after, laid-length, laid-again, stored, summed-none, summed-next, rows-more}
@@ -24,84 +24,84 @@ use Rattle.mixer.proofs.Signs.{same-right, same-down, other}
 
 -- ---- a row made before another
 
-laid-set : (e f : ℕ) (h : ℕ → Float) (w : List Float) (i : ℕ) (x : Float) → i < e → e ≤ length w → set (laid e f h w) i x ≡ laid e f h (set w i x)
-unfolding laid
+laid-set : (e f : ℕ) (h : ℕ → Float) (w : List Float) (i : ℕ) (x : Float) → i < e → e ≤ length w → set (rowLaid e f h w) i x ≡ rowLaid e f h (set w i x)
+unfolding rowLaid
 laid-set e f h w i x l fits = over-set e w (each f h) fits i x l
 
-laid-swap : (d e f k : ℕ) (g h : ℕ → Float) (w : List Float) → d + f ≤ e → e + k ≤ length w → laid d f g (laid e k h w) ≡ laid e k h (laid d f g w)
-laid-swap d e zero k g h w apart fits = sym (laid-none d g (laid e k h w)) ∙ ap (laid e k h) (laid-none d g w)
+laid-swap : (d e f k : ℕ) (g h : ℕ → Float) (w : List Float) → d + f ≤ e → e + k ≤ length w → rowLaid d f g (rowLaid e k h w) ≡ rowLaid e k h (rowLaid d f g w)
+laid-swap d e zero k g h w apart fits = sym (laid-none d g (rowLaid e k h w)) ∙ ap (rowLaid e k h) (laid-none d g w)
 laid-swap d e (suc f) k g h w apart fits =
     let long = laid-length e k h w fits in
     let short = laid-length d f g w (omega arith) in
-    let outer = rw add-one at (stored d f g (laid e k h w) (omega arith)) in
+    let outer = rw add-one at (stored d f g (rowLaid e k h w) (omega arith)) in
     let inner = rw add-one at (stored d f g w (omega arith)) in
     let same = ap (λ (l : List Float). set l (d + f) (g f)) (laid-swap d e f k g h w (omega arith) fits) in
-    sym outer ∙ same ∙ laid-set e k h (laid d f g w) (d + f) (g f) (omega arith) (omega arith) ∙ ap (laid e k h) inner
+    sym outer ∙ same ∙ laid-set e k h (rowLaid d f g w) (d + f) (g f) (omega arith) (omega arith) ∙ ap (rowLaid e k h) inner
 
 -- ---- both rows
 
 module _ (d e f : ℕ) (g h : ℕ → Float) (w : List Float) (apart : d + f ≤ e) (fits : e + f ≤ length w) where
-  room : e + f ≤ length (laid d f g w)
+  room : e + f ≤ length (rowLaid d f g w)
   room = rw (laid-length d f g w (omega arith)) fits
 
-  two-before : (k : ℕ) → k < d → getD (laidTwo d e f g h w) k nan ≡ getD w k nan
-  unfolding laidTwo
-  two-before k l = laid-before e f h (laid d f g w) room k (omega arith) ∙ laid-before d f g w (omega arith) k l
+  two-before : (k : ℕ) → k < d → getD (rowsLaid d e f g h w) k nan ≡ getD w k nan
+  unfolding rowsLaid
+  two-before k l = laid-before e f h (rowLaid d f g w) room k (omega arith) ∙ laid-before d f g w (omega arith) k l
 
-  two-low : (t : ℕ) → t < f → getD (laidTwo d e f g h w) (d + t) nan ≡ g t
-  unfolding laidTwo
-  two-low t l = laid-before e f h (laid d f g w) room (d + t) (omega arith) ∙ laid-at d f g w (omega arith) t l
+  two-low : (t : ℕ) → t < f → getD (rowsLaid d e f g h w) (d + t) nan ≡ g t
+  unfolding rowsLaid
+  two-low t l = laid-before e f h (rowLaid d f g w) room (d + t) (omega arith) ∙ laid-at d f g w (omega arith) t l
 
-  two-high : (t : ℕ) → t < f → getD (laidTwo d e f g h w) (e + t) nan ≡ h t
-  unfolding laidTwo
-  two-high t l = laid-at e f h (laid d f g w) room t l
+  two-high : (t : ℕ) → t < f → getD (rowsLaid d e f g h w) (e + t) nan ≡ h t
+  unfolding rowsLaid
+  two-high t l = laid-at e f h (rowLaid d f g w) room t l
 
   -- right after each
-  low-next : d + f < e → getD (laidTwo d e f g h w) (d + f) nan ≡ getD w (d + f) nan
-  unfolding laidTwo
-  low-next l = laid-before e f h (laid d f g w) room (d + f) l ∙ laid-after d f g w (omega arith) (d + f) (le-refl (d + f))
+  low-next : d + f < e → getD (rowsLaid d e f g h w) (d + f) nan ≡ getD w (d + f) nan
+  unfolding rowsLaid
+  low-next l = laid-before e f h (rowLaid d f g w) room (d + f) l ∙ laid-after d f g w (omega arith) (d + f) (le-refl (d + f))
 
-  high-next : getD (laidTwo d e f g h w) (e + f) nan ≡ getD w (e + f) nan
-  unfolding laidTwo
-  high-next = laid-after e f h (laid d f g w) room (e + f) (le-refl (e + f)) ∙ laid-after d f g w (omega arith) (e + f) (omega arith)
+  high-next : getD (rowsLaid d e f g h w) (e + f) nan ≡ getD w (e + f) nan
+  unfolding rowsLaid
+  high-next = laid-after e f h (rowLaid d f g w) room (e + f) (le-refl (e + f)) ∙ laid-after d f g w (omega arith) (e + f) (omega arith)
 
   -- one of them made anew
-  again-low : (g′ : ℕ → Float) → laid d f g′ (laidTwo d e f g h w) ≡ laidTwo d e f g′ h w
-  unfolding laidTwo
+  again-low : (g′ : ℕ → Float) → rowLaid d f g′ (rowsLaid d e f g h w) ≡ rowsLaid d e f g′ h w
+  unfolding rowsLaid
   again-low g′ =
-      laid-swap d e f f g′ h (laid d f g w) apart room
-      ∙ ap (laid e f h) (laid-again d f g w (omega arith) g′ g′ refl refl (λ t l. refl))
+      laid-swap d e f f g′ h (rowLaid d f g w) apart room
+      ∙ ap (rowLaid e f h) (laid-again d f g w (omega arith) g′ g′ refl refl (λ t l. refl))
 
-  again-high : (h′ : ℕ → Float) → laid e f h′ (laidTwo d e f g h w) ≡ laidTwo d e f g h′ w
-  unfolding laidTwo
-  again-high h′ = laid-again e f h (laid d f g w) room h′ h′ refl refl (λ t l. refl)
+  again-high : (h′ : ℕ → Float) → rowLaid e f h′ (rowsLaid d e f g h w) ≡ rowsLaid d e f g h′ w
+  unfolding rowsLaid
+  again-high h′ = laid-again e f h (rowLaid d f g w) room h′ h′ refl refl (λ t l. refl)
 
 two-ext : (d e f : ℕ) (g h g′ h′ : ℕ → Float) (w : List Float) → ((t : ℕ) → t < f → g t ≡ g′ t) → ((t : ℕ) → t < f → h t ≡ h′ t)
-    → laidTwo d e f g h w ≡ laidTwo d e f g′ h′ w
-unfolding laidTwo
-two-ext d e f g h g′ h′ w p q = ap (laid e f h) (laid-ext d f g g′ w p) ∙ laid-ext e f h h′ (laid d f g′ w) q
+    → rowsLaid d e f g h w ≡ rowsLaid d e f g′ h′ w
+unfolding rowsLaid
+two-ext d e f g h g′ h′ w p q = ap (rowLaid e f h) (laid-ext d f g g′ w p) ∙ laid-ext e f h h′ (rowLaid d f g′ w) q
 
 two-again : (d e f : ℕ) (g h g₁ h₁ g′ h′ : ℕ → Float) (w w1 w2 : List Float) → d + f ≤ e → e + f ≤ length w
-    → w1 ≡ laidTwo d e f g h w → w2 ≡ laidTwo d e f g₁ h₁ w1 → ((t : ℕ) → t < f → g₁ t ≡ g′ t) → ((t : ℕ) → t < f → h₁ t ≡ h′ t)
-    → w2 ≡ laidTwo d e f g′ h′ w
-unfolding laidTwo
+    → w1 ≡ rowsLaid d e f g h w → w2 ≡ rowsLaid d e f g₁ h₁ w1 → ((t : ℕ) → t < f → g₁ t ≡ g′ t) → ((t : ℕ) → t < f → h₁ t ≡ h′ t)
+    → w2 ≡ rowsLaid d e f g′ h′ w
+unfolding rowsLaid
 two-again d e f g h g₁ h₁ g′ h′ w w1 w2 apart fits e1 e2 p q =
-    e2 ∙ rw e1 (ap (laid e f h₁) (again-low d e f g h w apart fits g₁) ∙ again-high d e f g₁ h w apart fits h₁) ∙ two-ext d e f g₁ h₁ g′ h′ w p q
+    e2 ∙ rw e1 (ap (rowLaid e f h₁) (again-low d e f g h w apart fits g₁) ∙ again-high d e f g₁ h w apart fits h₁) ∙ two-ext d e f g₁ h₁ g′ h′ w p q
 
 -- ---- a turn of the loop that adds two rows to both
 
 two-stored : (d e t : ℕ) (g h : ℕ → Float) (w : List Float) → d + t < e → e + t < length w
-    → set (set (laidTwo d e t g h w) (d + t) (g t)) (e + t) (h t) ≡ laidTwo d e (t + 1) g h w
-unfolding laidTwo
+    → set (set (rowsLaid d e t g h w) (d + t) (g t)) (e + t) (h t) ≡ rowsLaid d e (t + 1) g h w
+unfolding rowsLaid
 two-stored d e t g h w apart fits =
     let low = laid-length d t g w (omega arith) in
     let more = laid-length d (t + 1) g w (omega arith) in
     ap (λ (l : List Float). set l (e + t) (h t))
-    (laid-set e t h (laid d t g w) (d + t) (g t) apart (omega arith) ∙ ap (laid e t h) (stored d t g w (omega arith)))
-    ∙ stored e t h (laid d (t + 1) g w) (omega arith)
+    (laid-set e t h (rowLaid d t g w) (d + t) (g t) apart (omega arith) ∙ ap (rowLaid e t h) (stored d t g w (omega arith)))
+    ∙ stored e t h (rowLaid d (t + 1) g w) (omega arith)
 
 pub crossed-none : (m : Bool) (d e a b : ℕ) (w : List Float) → w ≡ crossed m d e a b 0 w
-unfolding crossed laidTwo
+unfolding crossed rowsLaid
 crossed-none m d e a b w = laid-none d _ w ∙ laid-none e _ _
 
 module _ (m : Bool) (d e a b t : ℕ) (w₀ w : List Float) (apart : d + t < e) (fits : e + t < length w₀) (la : a + t < d) (lb : b + t < d)
@@ -174,9 +174,9 @@ module _ (r d e f n a b : ℕ) (w₀ w : List Float) (er : r % 2 ≡ 0) (en : n 
       (λ t l. rw (first t l, second t l, high t l) (two-next (r + 1) e f n w₀ t m3 m4)))
 
 pub crossed-start : (r d e f : ℕ) (w : List Float) → d + f ≤ e → e + f ≤ length w → w ≡ summedTwo r d e f 0 w
-unfolding laidTwo summedTwo
+unfolding rowsLaid summedTwo
 crossed-start r d e f w apart fits =
-    summed-none (r + 1) 2 (f + f) e f w fits ∙ ap (laid e f (summed (r + 1) 2 (f + f) e f 0 w)) (summed-none r 2 (f + f) d f w (omega arith))
+    summed-none (r + 1) 2 (f + f) e f w fits ∙ ap (rowLaid e f (summed (r + 1) 2 (f + f) e f 0 w)) (summed-none r 2 (f + f) d f w (omega arith))
 
 -- where two rows more end, of an even number of rows
 pub two-on : (i f : ℕ) → (i + 2) * f ≡ i * f + f + f
@@ -192,14 +192,14 @@ two-off n f h = let k : n ≡ n - 2 + 2 = omega arith in ap (λ (j : ℕ). j * f
 
 module _ (n m f r d e : ℕ) (k : Float) (w w1 w2 w3 w4 w5 : List Float) (two-more : n ≡ suc (suc m)) (lo : f + f + m * f ≤ d)
     (apart : d + f ≤ e) (fits : e + f ≤ length w)
-    (low : w1 ≡ laid d f (rowSum r 2 f w) w) (high : w2 ≡ laid e f (rowSum (r + 1) 2 f w1) w1)
+    (low : w1 ≡ rowLaid d f (rowSum r 2 f w) w) (high : w2 ≡ rowLaid e f (rowSum (r + 1) 2 f w1) w1)
     (added : w3 ≡ summedTwo r d e f m w2)
     (scaled : w4 ≡ pass (λ x y. x ⊗ k) d d f w3) (scaled′ : w5 ≡ pass (λ x y. x ⊗ k) e e f w4) where
-  begun : w2 ≡ laidTwo d e f (rowSum r 2 f w) (rowSum (r + 1) 2 f w) w
-  unfolding laidTwo rowSum
+  begun : w2 ≡ rowsLaid d e f (rowSum r 2 f w) (rowSum (r + 1) 2 f w) w
+  unfolding rowsLaid rowSum
   begun =
       high ∙ laid-ext e f _ _ w1 (λ t l. ap (sumOf (r + 1)) (column-ext f t l 2 w1 w (λ i b. rw low (laid-before d f _ w (omega arith) i (omega (arith, two-mul f))))))
-      ∙ ap (laid e f (rowSum (r + 1) 2 f w)) low
+      ∙ ap (rowLaid e f (rowSum (r + 1) 2 f w)) low
 
   rest : (t : ℕ) → t < f → column m f t (drop (f + f) w2) ≡ column m f t (drop f (drop f w))
   rest t l =
@@ -220,29 +220,29 @@ module _ (n m f r d e : ℕ) (k : Float) (w w1 w2 w3 w4 w5 : List Float) (two-mo
   unfolding summed rowSum
   high-sum t l i = sumFrom (r + 1) 2 (high-begun t l i) (rest t l i)
 
-  all-added : w3 ≡ laidTwo d e f (rowSum r n f w) (rowSum (r + 1) n f w) w
+  all-added : w3 ≡ rowsLaid d e f (rowSum r n f w) (rowSum (r + 1) n f w) w
   unfolding summedTwo
   all-added = rw two-more (two-again d e f _ _ _ _ _ _ w w2 w3 apart fits begun added low-sum high-sum)
 
-  low-scaled : w4 ≡ laidTwo d e f (λ t. rowSum r n f w t ⊗ k) (rowSum (r + 1) n f w) w
+  low-scaled : w4 ≡ rowsLaid d e f (λ t. rowSum r n f w t ⊗ k) (rowSum (r + 1) n f w) w
   unfolding pass
   low-scaled =
       let sum : (t : ℕ) → t < f → getD w3 (d + t) nan ≡ rowSum r n f w t = λ t l. rw all-added (two-low d e f _ _ w apart fits t l) in
-      scaled ∙ ap (laid d f (λ t. getD w3 (d + t) nan ⊗ k)) all-added ∙ again-low d e f _ _ w apart fits _
+      scaled ∙ ap (rowLaid d f (λ t. getD w3 (d + t) nan ⊗ k)) all-added ∙ again-low d e f _ _ w apart fits _
       ∙ two-ext d e f _ _ _ _ w (λ t l. ap (λ (x : Float). x ⊗ k) (sum t l)) (λ t l. refl)
 
-  both-scaled : w5 ≡ laidTwo d e f (λ t. rowSum r n f w t ⊗ k) (λ t. rowSum (r + 1) n f w t ⊗ k) w
+  both-scaled : w5 ≡ rowsLaid d e f (λ t. rowSum r n f w t ⊗ k) (λ t. rowSum (r + 1) n f w t ⊗ k) w
   unfolding pass
   both-scaled =
       let sum : (t : ℕ) → t < f → getD w4 (e + t) nan ≡ rowSum (r + 1) n f w t = λ t l. rw low-scaled (two-high d e f _ _ w apart fits t l) in
-      scaled′ ∙ ap (laid e f (λ t. getD w4 (e + t) nan ⊗ k)) low-scaled ∙ again-high d e f _ _ w apart fits _
+      scaled′ ∙ ap (rowLaid e f (λ t. getD w4 (e + t) nan ⊗ k)) low-scaled ∙ again-high d e f _ _ w apart fits _
       ∙ two-ext d e f _ _ _ _ w (λ t l. refl) (λ t l. ap (λ (x : Float). x ⊗ k) (sum t l))
 
   below : n * f ≤ d
   below = omega (arith, suc-mul (suc m) f, suc-mul m f, ap (λ (j : ℕ). j * f) two-more)
 
   pub two-mixed : w5 ≡ mixedAt n f k (r + 1) e (mixedAt n f k r d w)
-  unfolding laid laidTwo mixedRow mixAt rowSum mixedAt
+  unfolding rowLaid rowsLaid mixedRow mixAt rowSum mixedAt
   two-mixed =
       let row = row-ext n f k (mixedAt n f k r d w) w (λ i l. laid-before d f _ w (omega arith) i (omega (arith, below))) (r + 1) in
       both-scaled ∙ ap (λ (p : List Float). over e p (mixedAt n f k r d w)) (sym row)

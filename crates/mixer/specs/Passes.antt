@@ -9,21 +9,21 @@ use Rattle.hadamard.specs.Mix.{each, plusMinus, sumFrom, sumOf}
 use Rattle.hadamard.specs.Rows.{column, mixedRow}
 
 -- w with g 0, g 1, .. in the row of f samples that begins at d, and all else as it was
-unfoldable pub laid : ℕ → ℕ → (ℕ → Float) → List Float → List Float
-laid d f g w = over d (each f g) w
+unfoldable pub rowLaid : ℕ → ℕ → (ℕ → Float) → List Float → List Float
+rowLaid d f g w = over d (each f g) w
 
 -- each sample of the row at d made, by op, of itself and its like in the row at s
 unfoldable pub pass : (Float → Float → Float) → ℕ → ℕ → ℕ → List Float → List Float
-pass op d s f w = laid d f (λ t. op (getD w (d + t) nan) (getD w (s + t) nan)) w
+pass op d s f w = rowLaid d f (λ t. op (getD w (d + t) nan) (getD w (s + t) nan)) w
 
 -- w with g in the row at d, and h in the row at e
-unfoldable pub laidTwo : ℕ → ℕ → ℕ → (ℕ → Float) → (ℕ → Float) → List Float → List Float
-laidTwo d e f g h w = laid e f h (laid d f g w)
+unfoldable pub rowsLaid : ℕ → ℕ → ℕ → (ℕ → Float) → (ℕ → Float) → List Float → List Float
+rowsLaid d e f g h w = rowLaid e f h (rowLaid d f g w)
 
 -- onto the rows at d and e the row at a, with a minus or without, then the row at b: at e with the other sign
 unfoldable pub crossed : Bool → ℕ → ℕ → ℕ → ℕ → ℕ → List Float → List Float
 crossed m d e a b f w =
-    laidTwo d e f
+    rowsLaid d e f
     (λ t. plusMinus m (plusMinus m (getD w (d + t) nan) (getD w (a + t) nan)) (getD w (b + t) nan))
     (λ t. plusMinus (not m) (plusMinus m (getD w (e + t) nan) (getD w (a + t) nan)) (getD w (b + t) nan))
     w
@@ -34,7 +34,7 @@ summed r c o d f n w t = sumFrom r c (getD w (d + t) nan) (column n f t (drop o 
 
 -- in the rows at d and e what stands there, and onto it, by the signs of the rows r and r + 1, n rows from row 2 on
 unfoldable pub summedTwo : ℕ → ℕ → ℕ → ℕ → ℕ → List Float → List Float
-summedTwo r d e f n w = laidTwo d e f (summed r 2 (f + f) d f n w) (summed (r + 1) 2 (f + f) e f n w) w
+summedTwo r d e f n w = rowsLaid d e f (summed r 2 (f + f) d f n w) (summed (r + 1) 2 (f + f) e f n w) w
 
 -- sample t of the first n rows, summed by the signs of row r
 unfoldable pub rowSum : ℕ → ℕ → ℕ → List Float → ℕ → Float

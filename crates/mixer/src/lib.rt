@@ -14,7 +14,7 @@ ghost use Rattle.samples.specs.Answers.{accept};
 ghost use Rattle.samples.specs.Lists.{over};
 ghost use Rattle.hadamard.specs.Mix.{plusMinus};
 ghost use Rattle.hadamard.specs.Rows.{mixedRows, judgedRows, rowsMixed};
-ghost use Rattle.mixer.specs.Passes.{laid, pass, crossed, summed, summedTwo, rowSum, mixedAt};
+ghost use Rattle.mixer.specs.Passes.{rowLaid, pass, crossed, summed, summedTwo, rowSum, mixedAt};
 
 // Mixes the rows of all lines, which `rows` begins with, into as many rows after them (R3.30, R3.31).
 pub fn mix_rows(lines: usize, factor: f32, rows: &mut [f32]) -> Answer
@@ -103,7 +103,7 @@ fn mix_two(w: &mut [f32], n: usize, f: usize, k: f32, r: usize, d: usize, e: usi
 // Sums the first n rows into the row at d, by the signs of row r.
 fn sum_row(w: &mut [f32], n: usize, f: usize, r: usize, d: usize)
     requires { ⌜ (0 < n) × (n * f ≤ d) × (d + f ≤ length (now w)) ⌝ }
-    ensures { λ _. ⌜ now (w .exit) ≡ laid d f (rowSum r n f (now (w .entry))) (now (w .entry)) ⌝ }
+    ensures { λ _. ⌜ now (w .exit) ≡ rowLaid d f (rowSum r n f (now (w .entry))) (now (w .entry)) ⌝ }
 {
     copy_row(w, d, 0, f);
     sum_rows(w, n - 1, f, r, d);
@@ -140,7 +140,7 @@ fn cross_row(w: &mut [f32], m: bool, d: usize, e: usize, a: usize, b: usize, f: 
 // Adds the rows 1 to `last` to the row at d, by the signs of row r.
 fn sum_rows(w: &mut [f32], last: usize, f: usize, r: usize, d: usize)
     requires { ⌜ (last * f + f ≤ d) × (d + f ≤ length (now w)) ⌝ }
-    ensures { λ _. ⌜ now (w .exit) ≡ laid d f (summed r 1 f d f last (now (w .entry))) (now (w .entry)) ⌝ }
+    ensures { λ _. ⌜ now (w .exit) ≡ rowLaid d f (summed r 1 f d f last (now (w .entry))) (now (w .entry)) ⌝ }
 {
     let mut s = 0usize;
     let mut c = 0usize;

@@ -20,7 +20,7 @@ use Rattle.judges.specs.Judges.{storeOk, workOk}
 use Rattle.stages.specs.Steps.{copied}
 use Rattle.stages.proofs.RowLaws.{copied-all}
 use Rattle.rows.specs.Workers.{WorkFits}
-use Rattle.rows.specs.Rows.{joined}
+use Rattle.rows.specs.Rows.{joinedRows}
 use Rattle.frame.proofs.RowJoins.{copy-join}
 use Rattle.rows.proofs.RowsOf.{work-fits}
 use Rattle.judges.proofs.Fits.{Due}
@@ -68,7 +68,7 @@ pub begin-laid : (u : UnitState) (store w x : List Float) (n : ℕ) → WorkFits
     let a = length store - (length w - b) in
     x ≡ copied (take (length store - a) (drop a store)) (take (length w - b) (drop b w))
     → putMid b (length w - b) w x ≡ openLaid wall f (replicate f +0) (passesIn (lengths wall u) store)
-unfolding openLaid joined
+unfolding openLaid joinedRows
 begin-laid u store w x n h e z ex =
     let f = u .settings .frame in
     let t = total (lengths wall u) in
@@ -90,12 +90,12 @@ module _ (f : ℕ) (rings : List Float) where
   rest = replicate (16 * f) +0 ++ (replicate (16 * f) +0 ++ (replicate f +0 ++ rings))
 
   pub open-long : f ≤ length (openLaid wall f (replicate f +0) rings)
-  unfolding openLaid joined
+  unfolding openLaid joinedRows
   open-long = rw (length-append (replicate f +0) rest, length-replicate f +0) (omega arith)
 
   pub input-laid : (input x : List Float) → length input ≡ f → x ≡ copied input (take (f - 0) (drop 0 (openLaid wall f (replicate f +0) rings)))
       → putMid 0 (f - 0) (openLaid wall f (replicate f +0) rings) x ≡ openLaid wall f input rings
-  unfolding openLaid joined
+  unfolding openLaid joinedRows
   input-laid input x l e =
       let k : f ≡ f - 0 = omega arith in
       let m = middle 0 f [] (replicate f +0) rest (replicate f +0 ++ rest) refl refl (length-replicate f +0 ∙ k) in

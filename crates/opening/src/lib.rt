@@ -17,7 +17,7 @@ use unit::State;
 use unit::quiet;
 ghost use mathlib.Core.Path.{_≡_};
 ghost use Rattle.unit.specs.Model.{wall};
-ghost use Rattle.machine.specs.Ending.{lend, given};
+ghost use Rattle.machine.specs.Ending.{lend, outcomeOf};
 ghost use Rattle.machine.specs.Whole as Play;
 ghost use Rattle.machine.specs.Jobs.{opened};
 
@@ -30,7 +30,7 @@ pub fn open_apply(
     store: &[f32],
     work: &mut [f32],
 ) -> Outcome
-    ensures { λ r. ⌜ r ≡ given (opened wall (lend s (now (store .entry)) (now (work .entry))) (Play.apply t (now (coefficients .entry)) (now (input .entry)))) ⌝ }
+    ensures { λ r. ⌜ r ≡ outcomeOf (opened wall (lend s (now (store .entry)) (now (work .entry))) (Play.apply t (now (coefficients .entry)) (now (input .entry)))) ⌝ }
     ensures { λ _. ⌜ now (work .exit) ≡ opened wall (lend s (now (store .entry)) (now (work .entry))) (Play.apply t (now (coefficients .entry)) (now (input .entry))) .memory .work ⌝ }
 {
     let answer = judge_open_apply(s, t, coefficients, input, store.len(), work.len());
@@ -48,7 +48,7 @@ pub fn open_apply(
 
 // Begins a frame after the input has ended, to be done as jobs (R2.25, R5.6 to R5.8).
 pub fn open_tail(s: State, store: &[f32], work: &mut [f32]) -> Outcome
-    ensures { λ r. ⌜ r ≡ given (opened wall (lend s (now (store .entry)) (now (work .entry))) Play.tail) ⌝ }
+    ensures { λ r. ⌜ r ≡ outcomeOf (opened wall (lend s (now (store .entry)) (now (work .entry))) Play.tail) ⌝ }
     ensures { λ _. ⌜ now (work .exit) ≡ opened wall (lend s (now (store .entry)) (now (work .entry))) Play.tail .memory .work ⌝ }
 {
     let answer = judge_open_tail(s, store.len(), work.len());

@@ -15,7 +15,7 @@ use Rattle.iir.specs.declared.Filter.{Filter}
 use Rattle.unit.specs.Model.{wall}
 use Rattle.stages.specs.Frame.{outputRow}
 use Rattle.rows.specs.Workers.{WorkFits}
-use Rattle.rows.specs.Rows.{rowsOf, joined}
+use Rattle.rows.specs.Rows.{rowsOf, joinedRows}
 use Rattle.outputs.specs.Parts.{outputLaid, outputEnds}
 
 module _ (f : ℕ) (w : List Float) where
@@ -32,7 +32,7 @@ module _ (f : ℕ) (w : List Float) where
       let r = outputRow 16 f (wall .divisor) (wall .passes) qs fs (drop (k + k + f) v) (take k v) in
       gs ≡ over 48 (r .filters) fs → x ≡ take (k + k) v ++ (r .out ++ r .rings)
       → (gs ≡ outputEnds wall f qs fs true w) × (putMid f (length w - f) w x ≡ outputLaid wall f qs fs true w)
-  unfolding outputEnds outputLaid rowsOf joined
+  unfolding outputEnds outputLaid rowsOf joinedRows
   laid-output qs fs gs x h eg ex =
       let t = to-end f w (omega (arith, h .work-is)) in
       let far : f + (k + k + f) ≡ f + k + k + f = omega arith in

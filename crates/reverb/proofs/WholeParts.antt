@@ -30,7 +30,7 @@ use Rattle.frame.specs.Steps.{Left, leftBy, ran, ranWithRoom, untouched}
 use Rattle.machine.specs.Ending.{Ending, lend, refused}
 use Rattle.machine.specs.Whole.{Play, frameFor, countFor, played}
 use Rattle.machine.proofs.Ends.{Ends, ends-let-by, played-as-long}
-use Rattle.reverb.specs.Workers.{concluded, playing}
+use Rattle.reverb.specs.Workers.{playedBy, playing}
 
 -- where there is room, what a frame came to and left is how the call ends
 pub ended : (s : State) (tail : Bool) (fs : List Filter) (count : ℤ) (store work output : List Float)
@@ -39,7 +39,7 @@ pub ended : (s : State) (tail : Bool) (fs : List Filter) (count : ℤ) (store wo
     → (r : Rings) → r ≡ unitRings wall u
     → (x : Stepped) (y : Outcome) (store′ work′ output′ : List Float)
     → let l = ran wall (s .frame) r tail fs store work output in
-    x ≡ l .stepped → store′ ≡ l .store → work′ ≡ l .work → output′ ≡ l .output → y ≡ concluded u x count
+    x ≡ l .stepped → store′ ≡ l .store → work′ ≡ l .work → output′ ≡ l .output → y ≡ playedBy u x count
     → Ends (playing s tail fs count store work output) y store′ work′ output′
 unfolding leftBy played settled
 ended s tail fs count store work output room v e x y store′ work′ output′ ex es ew eo ey =
@@ -47,7 +47,7 @@ ended s tail fs count store work output room v e x y store′ work′ output′ 
     ap (λ (k : Rings). ran wall (s .frame) k tail fs store work output) e
     ∙ ap (λ (b : Bool). cond b R (untouched (unitRings wall (ofState s)) fs store work output)) room in
     let q = go (frameFinite r) refl in (
-      ey ∙ ap (λ (z : Stepped). concluded (ofState s) z count) (ex ∙ ap (λ (l : Left). l .stepped) here) ∙ q .0,
+      ey ∙ ap (λ (z : Stepped). playedBy (ofState s) z count) (ex ∙ ap (λ (l : Left). l .stepped) here) ∙ q .0,
       (
         es ∙ ap (λ (l : Left). l .store) here ∙ q .1 .0,
         (ew ∙ ap (λ (l : Left). l .work) here ∙ q .1 .1 .0, eo ∙ ap (λ (l : Left). l .output) here ∙ q .1 .1 .1),
@@ -61,7 +61,7 @@ ended s tail fs count store work output room v e x y store′ work′ output′ 
     R = ranWithRoom wall (s .frame) (unitRings wall (ofState s)) tail fs store work output
 
     go : (b : Bool) → frameFinite r ≡ b
-        → Ends (playing s tail fs count store work output) (concluded (ofState s) (R .stepped) count) (R .store) (R .work) (R .output)
+        → Ends (playing s tail fs count store work output) (playedBy (ofState s) (R .stepped) count) (R .store) (R .work) (R .output)
     go true h = rw h (refl, (refl, (refl, refl)))
     go false h = rw h (refl, (refl, (refl, refl)))
 

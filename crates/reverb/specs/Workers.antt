@@ -24,8 +24,8 @@ stepped u x count =
     record { settings = u .settings; cursors = record { lines = x .lines; passes = x .passes }; count = count; filters = x .filters; held = u .held }
 
 -- R4.15, R4.21, R4.22: 9 unless all of it is finite
-abbrev pub concluded : UnitState → Stepped → ℤ → Outcome
-concluded u x count = cond (x .ok) (outcome Accepted (stepped u x count) (verdictOf count)) (outcome NotFinite u TailComplete)
+abbrev pub playedBy : UnitState → Stepped → ℤ → Outcome
+playedBy u x count = cond (x .ok) (outcome Accepted (stepped u x count) (verdictOf count)) (outcome NotFinite u TailComplete)
 
 -- a frame through the filters fs, the input at the front of the work memory
 abbrev pub playing : State → Bool → List Filter → ℤ → List Float → List Float → List Float → Ending

@@ -24,13 +24,13 @@ use unit::quiet;
 ghost use mathlib.Core.Path.{_≡_};
 ghost use mathlib.Core.List.{[]};
 ghost use Rattle.unit.specs.Model.{wall};
-ghost use Rattle.machine.specs.Ending.{lend, given};
+ghost use Rattle.machine.specs.Ending.{lend, outcomeOf};
 ghost use Rattle.machine.specs.Whole as Play;
 ghost use Rattle.machine.specs.Whole.{begun, silenced, atOnce};
 
 // A unit in which nothing has sounded yet, and its store cleared (R2.20, R4.24).
 pub fn fresh(rate: u32, frame: usize, store: &mut [f32]) -> Outcome
-    ensures { λ r. ⌜ r ≡ given (begun wall rate frame (now (store .entry))) ⌝ }
+    ensures { λ r. ⌜ r ≡ outcomeOf (begun wall rate frame (now (store .entry))) ⌝ }
     ensures { λ _. ⌜ now (store .exit) ≡ begun wall rate frame (now (store .entry)) .memory .store ⌝ }
 {
     let answer = judge_fresh(rate, frame, store.len());
@@ -45,7 +45,7 @@ pub fn fresh(rate: u32, frame: usize, store: &mut [f32]) -> Outcome
 // Silences the unit: its store is cleared and no tail is left. Cursors and filters
 // stay (R2.21, R4.25).
 pub fn reset(s: State, store: &mut [f32]) -> Outcome
-    ensures { λ r. ⌜ r ≡ given (silenced wall (lend s (now (store .entry)) [])) ⌝ }
+    ensures { λ r. ⌜ r ≡ outcomeOf (silenced wall (lend s (now (store .entry)) [])) ⌝ }
     ensures { λ _. ⌜ now (store .exit) ≡ silenced wall (lend s (now (store .entry)) []) .memory .store ⌝ }
 {
     let answer = judge_reset(s, store.len());
@@ -70,7 +70,7 @@ pub fn apply(
     work: &mut [f32],
     output: &mut [f32],
 ) -> Outcome
-    ensures { λ r. ⌜ r ≡ given (atOnce wall (lend s (now (store .entry)) (now (work .entry))) (Play.apply t (now (coefficients .entry)) (now (input .entry))) (now (output .entry))) ⌝ }
+    ensures { λ r. ⌜ r ≡ outcomeOf (atOnce wall (lend s (now (store .entry)) (now (work .entry))) (Play.apply t (now (coefficients .entry)) (now (input .entry))) (now (output .entry))) ⌝ }
     ensures { λ _. ⌜ now (store .exit) ≡ atOnce wall (lend s (now (store .entry)) (now (work .entry))) (Play.apply t (now (coefficients .entry)) (now (input .entry))) (now (output .entry)) .memory .store ⌝ }
     ensures { λ _. ⌜ now (work .exit) ≡ atOnce wall (lend s (now (store .entry)) (now (work .entry))) (Play.apply t (now (coefficients .entry)) (now (input .entry))) (now (output .entry)) .memory .work ⌝ }
     ensures { λ _. ⌜ now (output .exit) ≡ atOnce wall (lend s (now (store .entry)) (now (work .entry))) (Play.apply t (now (coefficients .entry)) (now (input .entry))) (now (output .entry)) .output ⌝ }
@@ -98,7 +98,7 @@ pub fn apply(
 // A frame after the input has ended: the lines go on sounding through the filters kept, and one frame
 // less is to come (R2.23, R4.1 to R4.23).
 pub fn tail(s: State, store: &mut [f32], work: &mut [f32], output: &mut [f32]) -> Outcome
-    ensures { λ r. ⌜ r ≡ given (atOnce wall (lend s (now (store .entry)) (now (work .entry))) Play.tail (now (output .entry))) ⌝ }
+    ensures { λ r. ⌜ r ≡ outcomeOf (atOnce wall (lend s (now (store .entry)) (now (work .entry))) Play.tail (now (output .entry))) ⌝ }
     ensures { λ _. ⌜ now (store .exit) ≡ atOnce wall (lend s (now (store .entry)) (now (work .entry))) Play.tail (now (output .entry)) .memory .store ⌝ }
     ensures { λ _. ⌜ now (work .exit) ≡ atOnce wall (lend s (now (store .entry)) (now (work .entry))) Play.tail (now (output .entry)) .memory .work ⌝ }
     ensures { λ _. ⌜ now (output .exit) ≡ atOnce wall (lend s (now (store .entry)) (now (work .entry))) Play.tail (now (output .entry)) .output ⌝ }

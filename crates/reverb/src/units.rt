@@ -16,8 +16,8 @@ ghost use lib.ListN.{length};
 ghost use Rattle.unit.specs.UnitState.{ofState, toState};
 ghost use Rattle.unit.specs.Model.{wall};
 ghost use Rattle.unit.specs.Room.{unitRings, roomOk};
-ghost use Rattle.machine.specs.Ending.{given};
-ghost use Rattle.reverb.specs.Workers.{stepped, concluded, playing};
+ghost use Rattle.machine.specs.Ending.{outcomeOf};
+ghost use Rattle.reverb.specs.Workers.{stepped, playedBy, playing};
 
 // The unit after an accepted frame: its rings moved on, and the frame's filters and count.
 pub(crate) fn moved_on(s: State, frame: Stepped, count: Frames) -> State
@@ -36,7 +36,7 @@ pub(crate) fn moved_on(s: State, frame: Stepped, count: Frames) -> State
 
 // The outcome of a frame that nothing else refuses: 9 unless all of it is finite.
 pub(crate) fn conclude(s: State, frame: Stepped, count: Frames) -> Outcome
-    ensures { λ r. ⌜ r ≡ concluded (ofState s) frame (count .0) ⌝ }
+    ensures { λ r. ⌜ r ≡ playedBy (ofState s) frame (count .0) ⌝ }
 {
     if !frame.ok {
         return quiet(Answer::NotFinite, s);
@@ -60,7 +60,7 @@ pub(crate) fn whole_frame(
     output: &mut [f32],
 ) -> Outcome
     requires { ⌜ roomOk wall (s .frame) (unitRings wall (ofState s)) (length (now store)) (length (now work)) (length (now output)) ≡ true ⌝ }
-    ensures { λ r. ⌜ r ≡ given (playing s tail fs (count .0) (now (store .entry)) (now (work .entry)) (now (output .entry))) ⌝ }
+    ensures { λ r. ⌜ r ≡ outcomeOf (playing s tail fs (count .0) (now (store .entry)) (now (work .entry)) (now (output .entry))) ⌝ }
     ensures { λ _. ⌜ now (store .exit) ≡ playing s tail fs (count .0) (now (store .entry)) (now (work .entry)) (now (output .entry)) .memory .store ⌝ }
     ensures { λ _. ⌜ now (work .exit) ≡ playing s tail fs (count .0) (now (store .entry)) (now (work .entry)) (now (output .entry)) .memory .work ⌝ }
     ensures { λ _. ⌜ now (output .exit) ≡ playing s tail fs (count .0) (now (store .entry)) (now (work .entry)) (now (output .entry)) .output ⌝ }

@@ -18,7 +18,7 @@ use Rattle.iir.specs.declared.Filter.{Filter}
 use Rattle.iir.specs.declared.Bands.{Bands}
 use Rattle.iir.specs.Runs.{bandsOut, bandsEnd}
 use Rattle.iir.proofs.Laws.{bands-length}
-use Rattle.lanes.specs.declared.bank.FourBands.{FourBands}
+use Rattle.lanes.specs.declared.band_lanes.FourBands.{FourBands}
 use Rattle.bank.specs.Lines.{lines, linesOut, linesEnd}
 use Rattle.stages.specs.Lines.{noFilter, bandRows, bandEnds, three, threeOf}
 use Rattle.stages.proofs.RowLaws.{byBands, peel, length-bandEnds}

@@ -20,7 +20,7 @@ use Rattle.stages.specs.Lines.{three, threeOf, plus}
 use Rattle.stages.specs.Steps.{addedFirst}
 use Rattle.stages.proofs.RowLaws.{length-plus}
 use Rattle.rows.specs.Workers.{WorkFits}
-use Rattle.rows.specs.Rows.{rowsOf, joined, laid}
+use Rattle.rows.specs.Rows.{rowsOf, joinedRows, laid}
 use Rattle.rows.specs.Parts.{lineLaid, lineEnds}
 use Rattle.rows.proofs.RowsOf.{from-mixed}
 use Rattle.rows.proofs.SumTurns.{sum, sum-long, added-in}
@@ -41,14 +41,14 @@ module _ (f i : ℕ) (w : List Float) (h : i < 16) (fits : WorkFits wall f (leng
   module _ (r : List Float) (e : length r ≡ f) where
     -- row i of those read
     pub read-set : over (f + i * f) r w ≡ laid (take f w) (setRow f i r reads) mixed (take f (drop (f + k + k) w)) (drop (f + k + k + f) w)
-    unfolding joined
+    unfolding joinedRows
     read-set =
         row-set f f 16 i w h r e (omega (arith, fits .work-is))
         ∙ ap (λ (l : List Float). take f w ++ (setRow f i r reads ++ l)) (from-mixed f w)
 
     -- row i of those mixed
     pub mixed-set : over (17 * f + i * f) r w ≡ laid (take f w) reads (setRow f i r mixed) (take f (drop (f + k + k) w)) (drop (f + k + k + f) w)
-    unfolding joined
+    unfolding joinedRows
     mixed-set =
         let at : 17 * f + i * f ≡ f + k + i * f = omega arith in
         ap (λ (j : ℕ). over j r w) at

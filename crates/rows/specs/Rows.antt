@@ -26,10 +26,10 @@ rowsOf m f work =
     }
 
 -- and joined again
-unfoldable pub joined : Rows → List Float
-joined r = r .input ++ (r .reads ++ (r .mixed ++ (r .output ++ r .rings)))
+unfoldable pub joinedRows : Rows → List Float
+joinedRows r = r .input ++ (r .reads ++ (r .mixed ++ (r .output ++ r .rings)))
 
 -- the work memory with these parts
 abbrev pub laid : List Float → List Float → List Float → List Float → List Float → List Float
 laid input reads mixed output rings =
-    joined (record { input = input; reads = reads; mixed = mixed; output = output; rings = rings })
+    joinedRows (record { input = input; reads = reads; mixed = mixed; output = output; rings = rings })

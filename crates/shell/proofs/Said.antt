@@ -11,7 +11,7 @@ use Rattle.wire.specs.Wire.{encoded, written}
 use Rattle.wire.proofs.Laws.{encoded-silence, written-all}
 use Rattle.unit.specs.declared.Outcome.{Outcome}
 use Rattle.unit.specs.UnitState.{UnitState}
-use Rattle.machine.specs.Ending.{Ending, given}
+use Rattle.machine.specs.Ending.{Ending, outcomeOf}
 use Rattle.machine.specs.Whole.{Play}
 use Rattle.machine.proofs.Ends.{Ends}
 use Rattle.shell.specs.Frames.{playEnds, said}
@@ -36,10 +36,10 @@ row-said u p store work = go (accepted (e .answer)) refl
 pub frame-ends : (u : UnitState) {p q : Play} (store work : List Float) (x : Outcome) (store′ work′ row : List Float) (out₀ out : List ℕ) → p ≡ q
     → length row ≡ 128 → length out₀ ≡ 512 → Ends (playEnds u p store work) x store′ work′ row → out ≡ written row out₀
     → let e = playEnds u q store work in
-    (x ≡ given e) × ((store′ ≡ e .memory .store) × ((work′ ≡ e .memory .work) × (out ≡ said e)))
+    (x ≡ outcomeOf e) × ((store′ ≡ e .memory .store) × ((work′ ≡ e .memory .work) × (out ≡ said e)))
 frame-ends u {p} {q} store work x store′ work′ row out₀ out g n m h o =
     let e : playEnds u p store work ≡ playEnds u q store work = λ j. playEnds u (g j) store work in (
-      h .0 ∙ ap given e,
+      h .0 ∙ ap outcomeOf e,
       (
         h .1 .0 ∙ ap (λ (z : Ending). z .memory .store) e,
         (

@@ -16,7 +16,7 @@ use unit::Outcome;
 use unit::State;
 ghost use mathlib.Core.Path.{_≡_};
 ghost use Rattle.unit.specs.UnitState.{ofState};
-ghost use Rattle.machine.specs.Ending.{given};
+ghost use Rattle.machine.specs.Ending.{outcomeOf};
 ghost use Rattle.shell.specs.Frames.{inputEnds, tailEnds, said};
 
 // A frame of input. The row of the output begins as +0, and a refused call leaves it (R9.5 to R9.9).
@@ -27,7 +27,7 @@ pub fn input_frame(
     work: &mut [f32; WORK],
     out: &mut [u8; BYTES],
 ) -> Outcome
-    ensures { λ r. ⌜ r ≡ given (inputEnds (ofState s) (now (bytes .entry)) (now (store .entry)) (now (work .entry))) ⌝ }
+    ensures { λ r. ⌜ r ≡ outcomeOf (inputEnds (ofState s) (now (bytes .entry)) (now (store .entry)) (now (work .entry))) ⌝ }
     ensures { λ _. ⌜ now (store .exit) ≡ inputEnds (ofState s) (now (bytes .entry)) (now (store .entry)) (now (work .entry)) .memory .store ⌝ }
     ensures { λ _. ⌜ now (work .exit) ≡ inputEnds (ofState s) (now (bytes .entry)) (now (store .entry)) (now (work .entry)) .memory .work ⌝ }
     ensures { λ _. ⌜ now (out .exit) ≡ said (inputEnds (ofState s) (now (bytes .entry)) (now (store .entry)) (now (work .entry))) ⌝ }
@@ -55,7 +55,7 @@ pub fn tail_frame(
     work: &mut [f32; WORK],
     out: &mut [u8; BYTES],
 ) -> Outcome
-    ensures { λ r. ⌜ r ≡ given (tailEnds (ofState s) (now (store .entry)) (now (work .entry))) ⌝ }
+    ensures { λ r. ⌜ r ≡ outcomeOf (tailEnds (ofState s) (now (store .entry)) (now (work .entry))) ⌝ }
     ensures { λ _. ⌜ now (store .exit) ≡ tailEnds (ofState s) (now (store .entry)) (now (work .entry)) .memory .store ⌝ }
     ensures { λ _. ⌜ now (work .exit) ≡ tailEnds (ofState s) (now (store .entry)) (now (work .entry)) .memory .work ⌝ }
     ensures { λ _. ⌜ now (out .exit) ≡ said (tailEnds (ofState s) (now (store .entry)) (now (work .entry))) ⌝ }

@@ -5,7 +5,7 @@ use mathlib.Core.Path.{_≡_, refl, sym, _∙_}
 use mathlib.Core.Bool.{true, false, _&&_}
 use Rattle.samples.specs.declared.Answer.the-variants.{BadIndex}
 use Rattle.samples.proofs.Laws.{need-of, and-of}
-use Rattle.audio_buffer.specs.Judges.{channelsOk, samplesOk, judgedThen}
+use Rattle.audio_buffer.specs.Judges.{channelsOk, samplesOk, judgedBufferThen}
 use Rattle.audio_buffer.proofs.Laws.{counts-of}
 use Rattle.audio_buffer.proofs.judge_then.Statement.{statement}
 use Rattle.audio_buffer.proofs.judge_then.Tie as tie
@@ -20,11 +20,11 @@ mul-need c =
     omega (arith, counts-of (a .channels) (a .samples) (sym (counts (c .before)) ∙ c .if1 .taken))
 
 returns : tie.Need-returns
-unfolding judgedThen
+unfolding judgedBufferThen
 returns c = need-of {ok = true} BadIndex (c .need .ensures) (sym (c .before .if1 .taken) ∙ counts (c .before .before)) refl
 
 returns-2 : tie.Need-returns-2
-unfolding judgedThen
+unfolding judgedBufferThen
 returns-2 c = need-of {ok = false} BadIndex refl (sym (c .if1 .left) ∙ counts (c .before)) refl
 
 pub judge-then-spec : {M : Type 1} → statement M

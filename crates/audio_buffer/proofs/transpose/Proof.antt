@@ -10,7 +10,7 @@ use lib.ListN.{length, take, drop, length-set}
 use lib.Ieee.{nan}
 use Rattle.samples.proofs.Turns.{stored, all-done}
 use Rattle.samples.proofs.Rows.{row-ends}
-use Rattle.audio_buffer.specs.Layout.{column, columns}
+use Rattle.audio_buffer.specs.Layout.{firstOfEach, columns}
 use Rattle.audio_buffer.proofs.Turns.{column-more, columns-more}
 use Rattle.audio_buffer.proofs.transpose.Statement.{statement}
 use Rattle.audio_buffer.proofs.transpose.Tie as tie
@@ -21,7 +21,7 @@ Inv-loop2 rows row source target₀ at₀ t from₀ r₀ target at from r =
     × (length target ≡ rows * row)
     × (at ≡ t * rows + r)
     × (from ≡ t + r * row)
-    × (take at target ++ (column row (rows - r) (drop from source) ++ columns row rows (row - (t + 1)) (drop (t + 1) source))
+    × (take at target ++ (firstOfEach row (rows - r) (drop from source) ++ columns row rows (row - (t + 1)) (drop (t + 1) source))
     ≡ columns row rows row source)
 
 abbrev μ-loop2 : tie.MeasureT-loop2

@@ -9,12 +9,12 @@ use mir.Val.{toZ}
 use mir.ValLaws.{toZ-pos}
 use Rattle.samples.specs.declared.Answer.the-variants.{Accepted}
 use Rattle.samples.proofs.Laws.{let-by, old-left}
-use Rattle.bands.specs.Tail.{judgedCount, tailCount, countOf}
+use Rattle.bands.specs.Tail.{judgedTailCount, tailCount, countOf}
 use Rattle.bands.proofs.Tail.{Counts, counts, count-yes}
 use Rattle.bands.proofs.tail_count.Statement.{statement}
 use Rattle.bands.proofs.tail_count.Tie as tie
 
-yes : (c : tie.Then1) → let a = c .before .before .before .args in judgedCount (a .t) (a .rate) (a .frame) ≡ Accepted
+yes : (c : tie.Then1) → let a = c .before .before .before .args in judgedTailCount (a .t) (a .rate) (a .frame) ≡ Accepted
 yes c = let-by (c .before .before .judge .ensures) (c .before .is-accepted .ensures) (c .if1 .taken)
 
 known : (c : tie.Then1) → let a = c .before .before .before .args in Counts (a .t) (a .rate) (a .frame)

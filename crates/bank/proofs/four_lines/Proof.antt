@@ -1,8 +1,8 @@
 -- `bank::four_lines` meets its contract. Assumes nothing.
 use mathlib.Core.Path.{_≡_, refl}
-use Rattle.lanes.specs.declared.bank.FourBands.{FourBands}
+use Rattle.lanes.specs.declared.band_lanes.FourBands.{FourBands}
 use Rattle.lanes.specs.Lanes.{packed, lane}
-use Rattle.lanes.specs.Bank.{bankOf, bandsAt}
+use Rattle.lanes.specs.BandLanes.{byBand, bandsAt}
 use Rattle.bank.specs.Lines.{lines}
 use Rattle.bank.specs.Tile.{lined}
 use borrow.Author.Needs.{needs}
@@ -10,8 +10,8 @@ use Rattle.bank.proofs.four_lines.Statement.{statement}
 use Rattle.bank.proofs.four_lines.Tie as tie
 
 -- the bands of four lines, packed and looked up again
-bank-lines : (b : FourBands) → lined (λ k. bandsAt k (bankOf b)) ≡ lines b
-unfolding bankOf packed lane
+bank-lines : (b : FourBands) → lined (λ k. bandsAt k (byBand b)) ≡ lines b
+unfolding byBand packed lane
 bank-lines b = refl
 
 returns : tie.Need-returns

@@ -7,13 +7,13 @@ use Prim.Native.Nat.{_≤_, _-_}
 use lib.ListN.{length, take, drop, length-set, drop-of-length-le, take-append-drop}
 use lib.Ieee.{nan}
 use Rattle.samples.proofs.Turns.{next, front, stored}
-use Rattle.levels.specs.Levels.{mixed}
+use Rattle.levels.specs.Levels.{buffersMixed}
 use Rattle.levels.proofs.add.Statement.{statement}
 use Rattle.levels.proofs.add.Tie as tie
 
 abbrev Inv-loop : tie.InvT-loop
 Inv-loop xs other₀ i₀ i-end other i =
-    (i ≤ length xs) × (length other ≡ length xs) × (take i other ++ mixed (drop i xs) (drop i other) ≡ mixed xs other₀)
+    (i ≤ length xs) × (length other ≡ length xs) × (take i other ++ buffersMixed (drop i xs) (drop i other) ≡ buffersMixed xs other₀)
 
 abbrev μ-loop : tie.MeasureT-loop
 μ-loop xs other₀ i₀ i-end other i = length xs - i
@@ -25,7 +25,7 @@ loop-again c =
     let here = front (l .other) (l .i) nan (omega arith) _ in (
       omega arith,
       simp length-set (l .inv .1),
-      stored (l .other) (l .i) nan (omega arith) _ (λ i. mixed (next xs (l .i) nan (omega arith) i) (here i)) ∙ l .inv .2,
+      stored (l .other) (l .i) nan (omega arith) _ (λ i. buffersMixed (next xs (l .i) nan (omega arith) i) (here i)) ∙ l .inv .2,
     )
 
 returns : tie.Need-returns Inv-loop μ-loop

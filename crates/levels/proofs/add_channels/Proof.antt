@@ -8,7 +8,7 @@ use lib.ListN.{length, drop, length-take, length-drop}
 use Rattle.samples.proofs.Turns.{lent}
 use Rattle.samples.proofs.Rows.{row-ends}
 use Rattle.levels.proofs.Turns.{summed-more}
-use Rattle.levels.specs.Levels.{summed}
+use Rattle.levels.specs.Levels.{channelsSummed}
 use Rattle.levels.proofs.add_channels.Statement.{statement}
 use Rattle.levels.proofs.add_channels.Tie as tie
 
@@ -17,7 +17,7 @@ Inv-loop channels samples buffer row₀ at₀ i₀ row at i =
     (i ≤ channels)
     × (at ≡ i * samples)
     × (length row ≡ samples)
-    × (summed samples (channels - i) row (drop at buffer) ≡ summed samples channels row₀ buffer)
+    × (channelsSummed samples (channels - i) row (drop at buffer) ≡ channelsSummed samples channels row₀ buffer)
 
 abbrev μ-loop : tie.MeasureT-loop
 μ-loop channels samples buffer row₀ at₀ i₀ row at i = channels - i

@@ -7,13 +7,13 @@ use native.Mathlib.Nat.{zero-mul, suc-mul}
 use native.Mathlib.Numerals.{add-one}
 use lib.ListN.{length}
 use Rattle.samples.proofs.Rows.{row-ends}
-use Rattle.mixer.specs.Passes.{laid, summed}
+use Rattle.mixer.specs.Passes.{rowLaid, summed}
 use Rattle.mixer.proofs.Passes.{summed-none, summed-more}
 use Rattle.mixer.proofs.sum_rows.Statement.{statement}
 use Rattle.mixer.proofs.sum_rows.Tie as tie
 
 abbrev Inv-loop : tie.InvT-loop
-Inv-loop w₀ last f r d s₀ c₀ w s c = (c ≤ last) × (s ≡ c * f) × (length w ≡ length w₀) × (w ≡ laid d f (summed r 1 f d f c w₀) w₀)
+Inv-loop w₀ last f r d s₀ c₀ w s c = (c ≤ last) × (s ≡ c * f) × (length w ≡ length w₀) × (w ≡ rowLaid d f (summed r 1 f d f c w₀) w₀)
 
 abbrev μ-loop : tie.MeasureT-loop
 μ-loop w₀ last f r d s₀ c₀ w s c = last - c

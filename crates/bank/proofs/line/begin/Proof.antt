@@ -1,11 +1,11 @@
 -- `bank::line::begin` meets its contract. Assumes nothing.
-use Rattle.bank.specs.Behind.{begun}
+use Rattle.bank.specs.Behind.{firstFour}
 use borrow.Author.Needs.{needs}
 use Rattle.bank.proofs.line.begin.Statement.{statement}
 use Rattle.bank.proofs.line.begin.Tie as tie
 
 returns : tie.Need-returns
-unfolding begun
+unfolding firstFour
 returns c =
     let two = c .before .before in
     let four = two .before .before in

@@ -1,11 +1,11 @@
 -- `bank::line::end` meets its contract. Assumes nothing.
-use Rattle.bank.specs.Behind.{ended}
+use Rattle.bank.specs.Behind.{lastFour}
 use borrow.Author.Needs.{needs}
 use Rattle.bank.proofs.line.end.Statement.{statement}
 use Rattle.bank.proofs.line.end.Tie as tie
 
 returns : tie.Need-returns
-unfolding ended
+unfolding lastFour
 returns c =
     let h2 = c .before .before in
     let h0 = h2 .before .before in

@@ -2,7 +2,7 @@
 use native.Mathlib.Omega.{arith}
 use mathlib.Core.Path.{refl}
 use lib.ListN.{length-set}
-use Rattle.bank.specs.Tile.{columnPut}
+use Rattle.bank.specs.Tile.{fourPut}
 use borrow.Author.Needs.{needs}
 use Rattle.bank.proofs.tile.put_column.Statement.{statement}
 use Rattle.bank.proofs.tile.put_column.Tie as tie
@@ -17,7 +17,7 @@ slice-write-rows-4 : tie.Need-slice-write-rows-4
 slice-write-rows-4 c = simp length-set (omega arith)
 
 returns : tie.Need-returns
-unfolding columnPut
+unfolding fourPut
 returns c = refl
 
 pub put-column-spec : {M : Type 1} → statement M

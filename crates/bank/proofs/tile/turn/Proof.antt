@@ -7,7 +7,7 @@ returns : tie.Need-returns
 returns c =
     let put = c .before .before in
     let stepped = put .before .before .before in
-    (rw (stepped .before .tile-column .ensures) at (stepped .step-bank .ensures), put .set-column .ensures)
+    (rw (stepped .before .tile-column .ensures) at (stepped .step-bands .ensures), put .set-column .ensures)
 
 pub turn-spec : {M : Type 1} → statement M
 turn-spec =

@@ -1,11 +1,11 @@
 -- `lanes::bank::by_band` meets its contract. Assumes nothing.
-use Rattle.lanes.specs.Bank.{bankOf}
+use Rattle.lanes.specs.BandLanes.{byBand}
 use borrow.Author.Needs.{needs}
-use Rattle.lanes.proofs.bank.by_band.Statement.{statement}
-use Rattle.lanes.proofs.bank.by_band.Tie as tie
+use Rattle.lanes.proofs.band_lanes.by_band.Statement.{statement}
+use Rattle.lanes.proofs.band_lanes.by_band.Tie as tie
 
 returns : tie.Need-returns
-unfolding bankOf
+unfolding byBand
 returns c = rw (c .pack3 .ensures, c .before .pack2 .ensures, c .before .before .pack .ensures)
 
 pub by-band-spec : {M : Type 1} → statement M
