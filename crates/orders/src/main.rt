@@ -203,7 +203,7 @@ fn step(g: Going, k: usize, store: &mut [f32], work: &mut [f32], output: &mut [f
 // Every job in an order.
 fn play(g: Going, order: u32, store: &mut [f32], work: &mut [f32], output: &mut [f32]) -> Going {
     let mut going = g;
-    for n in 0..34usize {
+    for n in 0..JOBS {
         going = step(going, turn(order, n), store, work, output);
     }
     going
