@@ -133,9 +133,12 @@ fn allpass4(x: Four, xm: Four, ym: Four) -> Four
     )
 }
 
+// By what a stage multiplies what the y ring hands out, and what goes in (R3.32).
+const GAIN: f32 = 0.25;
+
 // What goes on of one sample.
 fn allpass(x: f32, xm: f32, ym: f32) -> f32
     ensures { λ r. ⌜ r ≡ allpass x xm ym ⌝ }
 {
-    (xm + 0.25 * ym) - 0.25 * x
+    (xm + GAIN * ym) - GAIN * x
 }

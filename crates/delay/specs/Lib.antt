@@ -1,3 +1,4 @@
 pub mod Ring
 pub mod Calls
 pub mod RingLaw
+pub mod Examples

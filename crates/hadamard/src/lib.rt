@@ -12,6 +12,12 @@ ghost use lib.ListN.{length};
 ghost use Rattle.samples.specs.Answers.{accept};
 ghost use Rattle.hadamard.specs.Mix.{minus, plusMinus, mixAt, mixed, quarter, judgedSample};
 
+// How many lines the mix on its own is of (R3.29).
+const WIDTH: usize = 16;
+
+// What it multiplies each sum by (R3.28).
+const QUARTER: f32 = 0.25;
+
 // Whether row r of the mix takes column c with a minus (R3.26).
 pub fn minus(r: usize, c: usize) -> bool
     ensures { λ m. ⌜ m ≡ minus r c ⌝ }
@@ -24,10 +30,10 @@ pub fn mix_sample(x: &[f32], y: &mut [f32]) -> Answer
     ensures { λ a. ⌜ a ≡ judgedSample (length (now (x .entry))) (length (now (y .entry))) ⌝ }
     ensures { λ a. ⌜ now (y .exit) ≡ accept a (mixed 16 quarter (now (x .entry))) (now (y .entry)) ⌝ }
 {
-    let ok = and(x.len() == 16, y.len() == 16);
+    let ok = and(x.len() == WIDTH, y.len() == WIDTH);
     let a = need(ok, Answer::BadLength, Answer::Accepted);
     if is_accepted(a) {
-        mix_column(x, 0.25, y);
+        mix_column(x, QUARTER, y);
     }
     a
 }

@@ -23,7 +23,7 @@ pub struct BandLanes {
     pub l2: Lanes,
 }
 
-// The bands of four lines, band by band.
+// The bands of four lines, band by band (R1.15).
 pub fn by_band(b: FourBands) -> BandLanes
     ensures { λ r. ⌜ r ≡ byBand b ⌝ }
 {
@@ -38,7 +38,7 @@ pub fn by_band(b: FourBands) -> BandLanes
     }
 }
 
-// The bands of line k.
+// The bands of line k (R1.15).
 pub fn bands_at(k: usize, g: BandLanes) -> Bands
     ensures { λ r. ⌜ r ≡ bandsAt k g ⌝ }
 {

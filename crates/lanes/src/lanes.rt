@@ -22,7 +22,7 @@ pub struct Lanes {
     pub y2: Four,
 }
 
-// Four filters, side by side.
+// Four filters, side by side (R1.14).
 pub fn pack(f: Filter, g: Filter, h: Filter, k: Filter) -> Lanes
     ensures { λ r. ⌜ r ≡ packed f g h k ⌝ }
 {
@@ -39,7 +39,7 @@ pub fn pack(f: Filter, g: Filter, h: Filter, k: Filter) -> Lanes
     }
 }
 
-// Line k's filter.
+// Line k's filter (R1.14).
 pub fn lane(k: usize, l: Lanes) -> Filter
     ensures { λ r. ⌜ r ≡ lane k l ⌝ }
 {

@@ -1,4 +1,5 @@
 -- What a call that is lent one buffer refuses, and a downmix.
+use mathlib.Core.Path.{_≡_}
 use Prim.Native.Nat.{ℕ}
 use lib.Dec.{eqb}
 use Rattle.samples.specs.declared.Answer.{Answer}
@@ -14,3 +15,7 @@ judgedOne channels samples len = judgedBufferThen channels samples len Accepted
 unfoldable pub judgedDownmix : ℕ → ℕ → ℕ → ℕ → Answer
 judgedDownmix channels samples len output =
     need (samplesOk samples) BadIndex (need (eqb output samples) BadLength (judgedBufferThen channels samples len Accepted))
+
+-- of two faults the one that is judged first, at three requests
+abbrev pub DownmixOrder : Type 0
+DownmixOrder = (judgedDownmix 17 65537 0 0 ≡ BadIndex) × (judgedDownmix 17 4 0 5 ≡ BadLength) × (judgedDownmix 17 4 0 4 ≡ BadIndex)

@@ -19,8 +19,11 @@ use samples::is_accepted;
 use samples::need;
 use samples::rate_ok;
 
+// How many lines have a prime.
+const LINES: usize = 16;
+
 // The prime of each line.
-pub const PRIMES: [u32; 16] = [2, 3, 5, 7, 11, 13, 17, 19, 23, 29, 31, 37, 41, 43, 47, 53];
+pub const PRIMES: [u32; LINES] = [2, 3, 5, 7, 11, 13, 17, 19, 23, 29, 31, 37, 41, 43, 47, 53];
 
 // The ring delays: line i has that of i mod 4.
 pub const DELAYS: [usize; 4] = [225, 341, 441, 556];
@@ -144,7 +147,7 @@ fn judge_value(time: f32, rate: u32, index: usize) -> Answer
 fn judge_values(time: f32, rate: u32, randoms: usize, out: usize) -> Answer
     ensures { λ r. ⌜ r ≡ judgedValues time rate randoms out ⌝ }
 {
-    let sixteen = and(randoms == 16, out == 16);
+    let sixteen = and(randoms == LINES, out == LINES);
     let rest = need(sixteen, Answer::BadLength, judge_time(time));
     need(rate_ok(rate), Answer::BadSize, rest)
 }
@@ -207,7 +210,7 @@ fn set_values(least: u32, randoms: &[u16], out: &mut [u32])
     requires { ⌜ (least ≤ 192000) × (length (now randoms) ≡ 16) × (length (now out) ≡ 16) ⌝ }
     ensures { λ _. ⌜ now (out .exit) ≡ valuesFrom least 0 (now (randoms .entry)) ⌝ }
 {
-    for i in 0..16usize {
+    for i in 0..LINES {
         out[i] = value_at(least, randoms[i], i);
     }
 }

@@ -96,7 +96,7 @@ pub fn need(ok: bool, bad: Answer, rest: Answer) -> Answer
     if ok { rest } else { bad }
 }
 
-// Both tests, each made whatever the other says: a judge has one way through it.
+// Both tests, each made whatever the other says (R2.3): a judge has one way through it.
 pub fn and(a: bool, b: bool) -> bool
     ensures { λ r. ⌜ r ≡ (a && b) ⌝ }
 {

@@ -40,7 +40,7 @@ pub fn first_bad(rows: &[f32], row: usize) -> Found
     found
 }
 
-// Whether a search found nothing.
+// Whether a search found nothing (R2.37).
 pub fn is_nothing(f: Found) -> bool
     ensures { λ r. ⌜ r ≡ nothing f ⌝ }
 {

@@ -79,13 +79,6 @@ length-addRows f (suc n) input rows e h =
     let row : length (plus (take f rows) input) ≡ f = length-plus (take f rows) input ∙ omega (arith, first-long f n rows h) in
     rw length-append (row-more f n row (length-addRows f n input (drop f rows) e (rest-long f n rows h)))
 
-pub length-sumRows : (f n : ℕ) (sum rows : List Float) → length sum ≡ f → n * f ≤ length rows → length (sumRows f n sum rows) ≡ f
-unfolding sumRows
-length-sumRows f zero sum rows e h = e
-length-sumRows f (suc n) sum rows e h =
-    let row : length (plus sum (take f rows)) ≡ f = length-plus sum (take f rows) ∙ omega (arith, first-long f n rows h) in
-    length-sumRows f n (plus sum (take f rows)) (drop f rows) row (rest-long f n rows h)
-
 -- ---- rings: n of the lengths ls, from line i on, lie one after the other within len floats, and each holds f samples
 
 abbrev pub Held : ℕ → ℕ → ℕ → List ℕ → ℕ → Type 0

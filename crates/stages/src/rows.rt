@@ -39,7 +39,7 @@ pub fn divide(xs: &mut [f32], divisor: f32)
     }
 }
 
-// Copies as much of `src` as `dst` has room for.
+// Copies as much of `src` as `dst` has room for (R4.18, R5.22).
 pub fn copy(src: &[f32], dst: &mut [f32])
     ensures { λ _. ⌜ now (dst .exit) ≡ copied (now (src .entry)) (now (dst .entry)) ⌝ }
 {

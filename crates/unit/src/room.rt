@@ -59,7 +59,7 @@ fn passes_are(ls: [usize; PASS_RINGS]) -> bool
     ok
 }
 
-// The rings of a unit. Where its frame is out of range there is no such unit, and its lines have no
+// The rings of a unit (R1.10, R1.12). Where its frame is out of range there is no such unit, and its lines have no
 // rings.
 pub fn rings_of(s: State) -> Rings
     ensures { λ r. ⌜ r ≡ cond (frameOk (s .frame)) (unitRings wall (ofState s)) (ringsWith wall (ofState s) (replicate (wall .lines) 0)) ⌝ }
