@@ -23,26 +23,6 @@ abbrev μ-loop : tie.MeasureT-loop
 loop-holds : tie.Need-loop-holds Inv-loop μ-loop
 loop-holds c = (search needs, refl, search needs, refl)
 
-shared-slice-read-new-from-coefficients :
-    tie.Need-shared-slice-read-new-from-coefficients Inv-loop μ-loop
-shared-slice-read-new-from-coefficients c = search needs
-
-shared-slice-read-new-from-coefficients-2 :
-    tie.Need-shared-slice-read-new-from-coefficients-2 Inv-loop μ-loop
-shared-slice-read-new-from-coefficients-2 c = search needs
-
-shared-slice-read-new-from-coefficients-3 :
-    tie.Need-shared-slice-read-new-from-coefficients-3 Inv-loop μ-loop
-shared-slice-read-new-from-coefficients-3 c = search needs
-
-shared-slice-read-new-from-coefficients-4 :
-    tie.Need-shared-slice-read-new-from-coefficients-4 Inv-loop μ-loop
-shared-slice-read-new-from-coefficients-4 c = search needs
-
-shared-slice-read-new-from-coefficients-5 :
-    tie.Need-shared-slice-read-new-from-coefficients-5 Inv-loop μ-loop
-shared-slice-read-new-from-coefficients-5 c = search needs
-
 loop-again : tie.Need-loop-again Inv-loop μ-loop
 loop-again c =
     let turn = c .before .before .before .before .before .before in
@@ -70,19 +50,19 @@ filters-from-spec =
     (λ c κs. search needs)
     loop-holds
     (λ c. search needs)
-    shared-slice-read-new-from-coefficients
     (λ c. search needs)
     (λ c. search needs)
-    shared-slice-read-new-from-coefficients-2
     (λ c. search needs)
     (λ c. search needs)
-    shared-slice-read-new-from-coefficients-3
     (λ c. search needs)
     (λ c. search needs)
-    shared-slice-read-new-from-coefficients-4
     (λ c. search needs)
     (λ c. search needs)
-    shared-slice-read-new-from-coefficients-5
+    (λ c. search needs)
+    (λ c. search needs)
+    (λ c. search needs)
+    (λ c. search needs)
+    (λ c. search needs)
     (λ c κs. search needs)
     (λ c. search needs)
     (λ c. search needs)
