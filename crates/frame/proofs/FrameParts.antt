@@ -13,13 +13,12 @@ use Rattle.search.specs.Search.{allFinite}
 use Rattle.search.proofs.Finite.{finite-append}
 use Rattle.iir.specs.declared.Filter.{Filter}
 use Rattle.stages.specs.Frame.{Frame, newFilters}
-use Rattle.stages.specs.Settle.{filtersFinite, frameFinite, putRows}
+use Rattle.stages.specs.Settle.{filtersFinite, frameFinite}
 use Rattle.stages.proofs.RowLaws.{length-readRows}
 use Rattle.stages.proofs.FrameLaws.{put-beside, out-long}
-use Rattle.delay.specs.declared.Cursors.{Cursors}
 use Rattle.unit.specs.declared.Rings.{Rings}
 use Rattle.unit.specs.Sizes.{total}
-use Rattle.frame.specs.Workers.{framed, frameBy, FrameFits, SettleFits, judgedStore, judgedOut}
+use Rattle.frame.specs.Workers.{framed, frameBy, FrameFits, SettleFits, finiteIn, putIn, outIn, judgedStore, judgedOut}
 use Rattle.frame.proofs.LineLaws.{lines-held}
 
 module _ (f m : ℕ) (input : List Float) (r : Frame) (w : List Float) (e : w ≡ framed input r)
@@ -56,7 +55,7 @@ none-over gs fs k h = rw (drop-of-length-le fs h) (append-nil gs)
 
 -- what is asked of the memory lent to settle a frame, from what its rows ask
 pub settle-fits : (n f : ℕ) (v : Rings) (store work w output : ℕ) → FrameFits n f v store work → w ≡ work → output ≡ f
-    → SettleFits n f (v .lengths) (v .lines) store w output
+    → SettleFits n f v store w output
 settle-fits n f v store work w output h e o =
     record {
       lines = record { few = h .few; some = h .frame; small = h .small; rows-are = refl; rings = h .rings };
@@ -66,17 +65,17 @@ settle-fits n f v store work w output h e o =
     }
 
 -- what a frame's rows in the work memory w, and its filters gs, give
-pub record Ran (n f : ℕ) (ls : List ℕ) (cs : List Cursors) (r : Frame) (gs : List Filter) (store w : List Float) : Type 0 where
+pub record Ran (n f : ℕ) (v : Rings) (r : Frame) (gs : List Filter) (store w : List Float) : Type 0 where
   pub filters : gs ≡ newFilters r
-  pub judged : (filtersFinite gs && allFinite (drop (f + n * f) w)) ≡ frameFinite r
+  pub judged : finiteIn n f gs w ≡ frameFinite r
   pub settled : (ok : Bool) → ok ≡ frameFinite r
-      → cond ok (putRows f n 0 ls cs (take (n * f) (drop (f + n * f) w)) (drop (f + n * f + n * f + f) w) store) store ≡ judgedStore n f ls cs r store
-  pub given : (ok : Bool) (output : List Float) → ok ≡ frameFinite r → cond ok (take f (drop (f + n * f + n * f) w)) output ≡ judgedOut r output
+      → cond ok (putIn n f v w store) store ≡ judgedStore n f v r store
+  pub given : (ok : Bool) (output : List Float) → ok ≡ frameFinite r → cond ok (outIn n f w) output ≡ judgedOut r output
 
 pub frame-run : (n f : ℕ) (k d : Float) (tail : Bool) (v : Rings) (fs gs : List Filter) (store work w : List Float)
     → FrameFits n f v (length store) (length work) → length fs ≤ 3 * n + 3
     → let r = frameBy n f k d tail v fs (take f work) store in
-    gs ≡ newFilters r ++ drop (3 * n + 3) fs → w ≡ framed (take f work) r → Ran n f (v .lengths) (v .lines) r gs store w
+    gs ≡ newFilters r ++ drop (3 * n + 3) fs → w ≡ framed (take f work) r → Ran n f v r gs store w
 unfolding judgedStore judgedOut
 frame-run n f k d tail v fs gs store work w h all eg ew =
     let m = n * f in

@@ -14,7 +14,7 @@ use Rattle.unit.specs.declared.Rings.{Rings}
 use Rattle.unit.specs.Model.{Model, wall}
 use Rattle.unit.specs.Sizes.{total}
 use Rattle.stages.specs.Lines.{readRows}
-use Rattle.stages.specs.Frame.{Frame, lineRows, outputRow, newFilters}
+use Rattle.stages.specs.Frame.{Frame, LineRows, lineRows, outputRow, newFilters}
 use Rattle.stages.specs.Settle.{filtersFinite, frameFinite, putRows}
 use Rattle.frame.specs.declared.whole.Judged.{Judged}
 
@@ -29,13 +29,17 @@ RingsFit f (suc n) i a ls cs len =
     (f ≤ getD ls i 0) × (getD ls i 0 ≤ longestRing) × (getD cs i (both 0) .read .0 < getD ls i 0) × (getD cs i (both 0) .write .0 < getD ls i 0)
     × (a + getD ls i 0 ≤ len) × RingsFit f n (i + 1) (a + getD ls i 0) ls cs len
 
+-- the floats that the rings of n lines take
+abbrev pub linesLen : ℕ → Rings → ℕ
+linesLen n r = total (take n (r .lengths))
+
 -- what the workers over n lines ask: rows of n frames of f samples, and the rings
-pub record LinesFit (n f : ℕ) (ls : List ℕ) (cs : List Cursors) (store rows : ℕ) : Type 0 where
+pub record LinesFit (n f : ℕ) (r : Rings) (store rows : ℕ) : Type 0 where
   pub few : n ≤ wall .lines
   pub some : 0 < f
   pub small : f ≤ longestRing
   pub rows-are : rows ≡ n * f
-  pub rings : RingsFit f n 0 0 ls cs store
+  pub rings : RingsFit f n 0 0 (r .lengths) (r .lines) store
 
 -- the cursors of n rings, from ring i on, are within them
 abbrev pub Within : ℕ → ℕ → List ℕ → List Cursors → Type 0
@@ -54,17 +58,32 @@ pub record FrameFits (n f : ℕ) (r : Rings) (store work : ℕ) : Type 0 where
   pub rings : RingsFit f n 0 0 (r .lengths) (r .lines) store
   pub passes : total (r .sizes) ≤ longestRing
   pub four : length (r .sizes) ≡ length (wall .passes)
-  pub store-is : store ≡ total (take n (r .lengths)) + total (r .sizes)
+  pub store-is : store ≡ linesLen n r + total (r .sizes)
   pub work-is : work ≡ f + n * f + n * f + f + total (r .sizes)
+
+-- a frame of f samples read of each of n lines, row after row
+abbrev pub readsOf : ℕ → ℕ → Rings → List Float → List Float
+readsOf n f r store = readRows f n 0 (r .lengths) (r .lines) store
+
+-- the store with such rows put into its lines, and `passes` after them
+abbrev pub putInto : ℕ → ℕ → Rings → List Float → List Float → List Float → List Float
+putInto n f r rows passes store = putRows f n 0 (r .lengths) (r .lines) rows passes store
+
+-- what lies after the lines: the allpass rings
+abbrev pub afterLines : ℕ → Rings → List Float → List Float
+afterLines n r store = drop (linesLen n r) store
+
+-- steps 2 to 4 over n lines: the mix's factor k
+abbrev pub linesBy : ℕ → ℕ → Float → Bool → Rings → List Filter → List Float → List Float → LineRows
+linesBy n f k tail r fs input store = lineRows n f k tail fs input (readsOf n f r store)
 
 -- a frame of n lines by its parts, where a model has them: the mix's factor k and the sum's divisor d
 abbrev pub frameBy : ℕ → ℕ → Float → Float → Bool → Rings → List Filter → List Float → List Float → Frame
 frameBy n f k d tail r fs input store =
-    let reads = readRows f n 0 (r .lengths) (r .lines) store in
     record {
-      reads = reads;
-      lines = lineRows n f k tail fs input reads;
-      output = outputRow n f d (r .sizes) (r .passes) fs (drop (total (take n (r .lengths))) store) reads;
+      reads = readsOf n f r store;
+      lines = linesBy n f k tail r fs input store;
+      output = outputRow n f d (r .sizes) (r .passes) fs (afterLines n r store) (readsOf n f r store);
     }
 
 -- the cursors of all rings of model m are within them
@@ -81,10 +100,10 @@ pub record WholeFits (m : Model) (f : ℕ) (r : Rings) (store work output : ℕ)
   pub out : output ≡ f
 
 -- what settling a frame of n lines asks: the lines' rings, and as many floats after them as after the rows in the work memory
-pub record SettleFits (n f : ℕ) (ls : List ℕ) (cs : List Cursors) (store work output : ℕ) : Type 0 where
-  pub lines : LinesFit n f ls cs store (n * f)
+pub record SettleFits (n f : ℕ) (r : Rings) (store work output : ℕ) : Type 0 where
+  pub lines : LinesFit n f r store (n * f)
   pub rows : f + n * f + n * f + f ≤ work
-  pub rings : total (take n ls) + work ≡ store + (f + n * f + n * f + f)
+  pub rings : linesLen n r + work ≡ store + (f + n * f + n * f + f)
   pub out : output ≡ f
 
 -- ---- what lies in the work memory: f samples of input, n rows read, n to put, the output and the allpass rings
@@ -94,8 +113,8 @@ abbrev pub finiteIn : ℕ → ℕ → List Filter → List Float → Bool
 finiteIn n f fs work = filtersFinite fs && allFinite (drop (f + n * f) work)
 
 -- the store with its rows in the lines, and its allpass rings after them
-abbrev pub putIn : ℕ → ℕ → List ℕ → List Cursors → List Float → List Float → List Float
-putIn n f ls cs work store = putRows f n 0 ls cs (take (n * f) (drop (f + n * f) work)) (drop (f + n * f + n * f + f) work) store
+abbrev pub putIn : ℕ → ℕ → Rings → List Float → List Float → List Float
+putIn n f r work store = putInto n f r (take (n * f) (drop (f + n * f) work)) (drop (f + n * f + n * f + f) work) store
 
 -- its output
 abbrev pub outIn : ℕ → ℕ → List Float → List Float
@@ -104,12 +123,12 @@ outIn n f work = take f (drop (f + n * f + n * f) work)
 -- ---- a frame of n lines that lies there, where the judgement 9 is made of it
 
 abbrev pub judgedOf : Frame → Judged
-judgedOf r = record { ok = frameFinite r; filters = newFilters r }
+judgedOf x = record { ok = frameFinite x; filters = newFilters x }
 
 -- its rows in the lines and its allpass rings after them, if all of it is finite
-unfoldable pub judgedStore : ℕ → ℕ → List ℕ → List Cursors → Frame → List Float → List Float
-judgedStore n f ls cs r store = cond (frameFinite r) (putRows f n 0 ls cs (r .lines .put) (r .output .rings) store) store
+unfoldable pub judgedStore : ℕ → ℕ → Rings → Frame → List Float → List Float
+judgedStore n f r x store = cond (frameFinite x) (putInto n f r (x .lines .put) (x .output .rings) store) store
 
 -- its output, if all of it is finite
 unfoldable pub judgedOut : Frame → List Float → List Float
-judgedOut r output = cond (frameFinite r) (r .output .out) output
+judgedOut x output = cond (frameFinite x) (x .output .out) output

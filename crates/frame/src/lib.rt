@@ -162,8 +162,6 @@ fn wall_close(
     ensures { λ _. ⌜ now (work .exit) ≡ finishedWithRoom wall f rings fs (now (store .entry)) (now (work .entry)) (now (output .entry)) .work ⌝ }
     ensures { λ _. ⌜ now (output .exit) ≡ finishedWithRoom wall f rings fs (now (store .entry)) (now (work .entry)) (now (output .entry)) .output ⌝ }
 {
-    let ls = rings.lengths;
-    let cs = rings.lines;
-    let ok = finish_frame(LINES, f, ls, cs, fs, store, work, output);
+    let ok = finish_frame(LINES, f, rings, fs, store, work, output);
     moved_on(ok, f, rings, fs)
 }

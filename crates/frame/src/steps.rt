@@ -6,29 +6,23 @@ use delay::Cursors;
 use samples::Samples;
 use unit::LINES;
 use unit::PASS_RINGS;
+use unit::Rings;
 ghost use mathlib.Core.Path.{_≡_};
 ghost use mathlib.Core.List.{_++_};
 ghost use Prim.Native.Nat.{_+_, _-_, _<_, _≤_};
-ghost use lib.ListN.{length, take, drop};
+ghost use lib.ListN.{length, take};
 ghost use Rattle.delay.specs.Calls.{longestRing};
 ghost use Rattle.unit.specs.Model.{wall};
-ghost use Rattle.unit.specs.Sizes.{total};
-ghost use Rattle.stages.specs.Lines.{readRows};
-ghost use Rattle.stages.specs.Settle.{putRows, movedBy, allMoved};
-ghost use Rattle.frame.specs.Workers.{LinesFit, Within};
+ghost use Rattle.stages.specs.Settle.{movedBy, allMoved};
+ghost use Rattle.frame.specs.Workers.{LinesFit, Within, linesLen, readsOf, putInto, afterLines};
 
 // Reads a frame of each line, row after row.
-pub(crate) fn read_lines(
-    n: usize,
-    f: usize,
-    ls: [usize; LINES],
-    cs: [Cursors; LINES],
-    store: &[f32],
-    rows: &mut [f32],
-)
-    requires { ⌜ LinesFit n f ls cs (length (now store)) (length (now rows)) ⌝ }
-    ensures { λ _. ⌜ now (rows .exit) ≡ readRows f n 0 ls cs (now (store .entry)) ⌝ }
+pub(crate) fn read_lines(n: usize, f: usize, rings: Rings, store: &[f32], rows: &mut [f32])
+    requires { ⌜ LinesFit n f rings (length (now store)) (length (now rows)) ⌝ }
+    ensures { λ _. ⌜ now (rows .exit) ≡ readsOf n f rings (now (store .entry)) ⌝ }
 {
+    let ls = rings.lengths;
+    let cs = rings.lines;
     let mut a = 0usize;
     let mut b = 0usize;
     for i in 0..n {
@@ -42,17 +36,12 @@ pub(crate) fn read_lines(
 }
 
 // Puts each row into its line's ring, and leaves what lies after the lines.
-pub(crate) fn put_lines(
-    n: usize,
-    f: usize,
-    ls: [usize; LINES],
-    cs: [Cursors; LINES],
-    rows: &[f32],
-    store: &mut [f32],
-)
-    requires { ⌜ LinesFit n f ls cs (length (now store)) (length (now rows)) ⌝ }
-    ensures { λ _. ⌜ now (store .exit) ≡ putRows f n 0 ls cs (now (rows .entry)) (drop (total (take n ls)) (now (store .entry))) (now (store .entry)) ⌝ }
+pub(crate) fn put_lines(n: usize, f: usize, rings: Rings, rows: &[f32], store: &mut [f32])
+    requires { ⌜ LinesFit n f rings (length (now store)) (length (now rows)) ⌝ }
+    ensures { λ _. ⌜ now (store .exit) ≡ putInto n f rings (now (rows .entry)) (afterLines n rings (now (store .entry))) (now (store .entry)) ⌝ }
 {
+    let ls = rings.lengths;
+    let cs = rings.lines;
     let mut a = 0usize;
     let mut b = 0usize;
     for i in 0..n {
@@ -65,31 +54,30 @@ pub(crate) fn put_lines(
     }
 }
 
-// Sets the allpass rings, which lie at the end of a store.
-pub(crate) fn put_rings(rings: &[f32], store: &mut [f32])
-    requires { ⌜ length (now rings) ≤ length (now store) ⌝ }
-    ensures { λ _. ⌜ now (store .exit) ≡ take (length (now (store .entry)) - length (now (rings .entry))) (now (store .entry)) ++ now (rings .entry) ⌝ }
+// Sets the allpass rings to `passes`. They lie at the end of a store.
+pub(crate) fn put_rings(passes: &[f32], store: &mut [f32])
+    requires { ⌜ length (now passes) ≤ length (now store) ⌝ }
+    ensures { λ _. ⌜ now (store .exit) ≡ take (length (now (store .entry)) - length (now (passes .entry))) (now (store .entry)) ++ now (passes .entry) ⌝ }
 {
-    let at = store.len() - rings.len();
-    stages::copy(rings, &mut store[at..]);
+    let at = store.len() - passes.len();
+    stages::copy(passes, &mut store[at..]);
 }
 
-// Puts each row into its line's ring, and sets the allpass rings after the lines.
+// Puts each row into its line's ring, and sets the allpass rings after the lines to `passes`.
 pub(crate) fn settle(
     n: usize,
     f: usize,
-    ls: [usize; LINES],
-    cs: [Cursors; LINES],
+    rings: Rings,
     rows: &[f32],
-    rings: &[f32],
+    passes: &[f32],
     store: &mut [f32],
 )
-    requires { ⌜ LinesFit n f ls cs (length (now store)) (length (now rows)) ⌝ }
-    requires { ⌜ total (take n ls) + length (now rings) ≡ length (now store) ⌝ }
-    ensures { λ _. ⌜ now (store .exit) ≡ putRows f n 0 ls cs (now (rows .entry)) (now (rings .entry)) (now (store .entry)) ⌝ }
+    requires { ⌜ LinesFit n f rings (length (now store)) (length (now rows)) ⌝ }
+    requires { ⌜ linesLen n rings + length (now passes) ≡ length (now store) ⌝ }
+    ensures { λ _. ⌜ now (store .exit) ≡ putInto n f rings (now (rows .entry)) (now (passes .entry)) (now (store .entry)) ⌝ }
 {
-    put_lines(n, f, ls, cs, rows, store);
-    put_rings(rings, store);
+    put_lines(n, f, rings, rows, store);
+    put_rings(passes, store);
 }
 
 // The cursors of n lines after a frame.

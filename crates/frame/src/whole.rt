@@ -2,7 +2,6 @@
 // is finite.
 use crate::steps::read_lines;
 use crate::steps::settle;
-use delay::Cursors;
 use iir::Filter;
 use outputs::output_row;
 use rows::line_rows;
@@ -10,7 +9,6 @@ use samples::and;
 use samples::clear;
 use search::all_finite;
 use unit::FILTERS;
-use unit::LINES;
 use unit::Rings;
 ghost use mathlib.Core.Path.{_≡_};
 ghost use mathlib.Core.Bool.{cond};
@@ -20,9 +18,8 @@ ghost use lib.ListN.{length, take, drop, replicate};
 ghost use Rattle.samples.specs.Binary32.{+0};
 ghost use Rattle.unit.specs.Model.{wall};
 ghost use Rattle.unit.specs.Sizes.{filtersLen};
-ghost use Rattle.stages.specs.Lines.{readRows};
-ghost use Rattle.stages.specs.Frame.{lineRows, newFilters};
-ghost use Rattle.frame.specs.Workers.{LinesFit, SettleFits, FrameFits, frameBy, framed, finiteIn, putIn, outIn};
+ghost use Rattle.stages.specs.Frame.{newFilters};
+ghost use Rattle.frame.specs.Workers.{LinesFit, SettleFits, FrameFits, readsOf, linesBy, frameBy, framed, finiteIn, putIn, outIn};
 ghost use Rattle.frame.specs.Workers.{judgedOf, judgedStore, judgedOut};
 
 // What a frame in the work memory came to: whether all of it is finite, and its filters.
@@ -38,19 +35,18 @@ pub(crate) fn play_lines(
     f: usize,
     factor: f32,
     tail: bool,
-    ls: [usize; LINES],
-    cs: [Cursors; LINES],
+    rings: Rings,
     fs: [Filter; FILTERS],
     store: &[f32],
     rows: &mut [f32],
 ) -> [Filter; FILTERS]
-    requires { ⌜ LinesFit n f ls cs (length (now store)) (n * f) ⌝ }
+    requires { ⌜ LinesFit n f rings (length (now store)) (n * f) ⌝ }
     requires { ⌜ (0 < n) × (length (now rows) ≡ f + n * f + n * f) ⌝ }
-    ensures { λ r. ⌜ r ≡ lineRows n f factor tail fs (take f (now (rows .entry))) (readRows f n 0 ls cs (now (store .entry))) .filters ++ drop (3 * n) fs ⌝ }
-    ensures { λ _. ⌜ now (rows .exit) ≡ take f (now (rows .entry)) ++ (readRows f n 0 ls cs (now (store .entry)) ++ lineRows n f factor tail fs (take f (now (rows .entry))) (readRows f n 0 ls cs (now (store .entry))) .put) ⌝ }
+    ensures { λ r. ⌜ r ≡ linesBy n f factor tail rings fs (take f (now (rows .entry))) (now (store .entry)) .filters ++ drop (3 * n) fs ⌝ }
+    ensures { λ _. ⌜ now (rows .exit) ≡ take f (now (rows .entry)) ++ (readsOf n f rings (now (store .entry)) ++ linesBy n f factor tail rings fs (take f (now (rows .entry))) (now (store .entry)) .put) ⌝ }
 {
     let at = f + n * f;
-    read_lines(n, f, ls, cs, store, &mut rows[f..at]);
+    read_lines(n, f, rings, store, &mut rows[f..at]);
     line_rows(n, f, factor, tail, fs, rows)
 }
 
@@ -74,11 +70,9 @@ pub(crate) fn frame_rows(
     let b = at + f;
     let a = store.len() - (work.len() - b);
     stages::copy(&store[a..], &mut work[b..]);
-    let ls = rings.lengths;
-    let cs = rings.lines;
     let ps = rings.sizes;
     let qs = rings.passes;
-    let gs = play_lines(n, f, factor, tail, ls, cs, fs, store, &mut work[0..at]);
+    let gs = play_lines(n, f, factor, tail, rings, fs, store, &mut work[0..at]);
     output_row(n, f, divisor, ps, qs, gs, &mut work[f..])
 }
 
@@ -96,20 +90,19 @@ pub(crate) fn frame_finite(n: usize, f: usize, fs: [Filter; FILTERS], work: &[f3
 pub(crate) fn settle_frame(
     n: usize,
     f: usize,
-    ls: [usize; LINES],
-    cs: [Cursors; LINES],
+    rings: Rings,
     work: &[f32],
     store: &mut [f32],
     output: &mut [f32],
 )
-    requires { ⌜ SettleFits n f ls cs (length (now store)) (length (now work)) (length (now output)) ⌝ }
-    ensures { λ _. ⌜ now (store .exit) ≡ putIn n f ls cs (now (work .entry)) (now (store .entry)) ⌝ }
+    requires { ⌜ SettleFits n f rings (length (now store)) (length (now work)) (length (now output)) ⌝ }
+    ensures { λ _. ⌜ now (store .exit) ≡ putIn n f rings (now (work .entry)) (now (store .entry)) ⌝ }
     ensures { λ _. ⌜ now (output .exit) ≡ outIn n f (now (work .entry)) ⌝ }
 {
     let a = f + n * f;
     let p = a + n * f;
     let e = p + f;
-    settle(n, f, ls, cs, &work[a..p], &work[e..], store);
+    settle(n, f, rings, &work[a..p], &work[e..], store);
     stages::copy(&work[p..e], output);
 }
 
@@ -118,20 +111,19 @@ pub(crate) fn settle_if(
     ok: bool,
     n: usize,
     f: usize,
-    ls: [usize; LINES],
-    cs: [Cursors; LINES],
+    rings: Rings,
     work: &[f32],
     store: &mut [f32],
     output: &mut [f32],
 )
-    requires { ⌜ SettleFits n f ls cs (length (now store)) (length (now work)) (length (now output)) ⌝ }
-    ensures { λ _. ⌜ now (store .exit) ≡ cond ok (putIn n f ls cs (now (work .entry)) (now (store .entry))) (now (store .entry)) ⌝ }
+    requires { ⌜ SettleFits n f rings (length (now store)) (length (now work)) (length (now output)) ⌝ }
+    ensures { λ _. ⌜ now (store .exit) ≡ cond ok (putIn n f rings (now (work .entry)) (now (store .entry))) (now (store .entry)) ⌝ }
     ensures { λ _. ⌜ now (output .exit) ≡ cond ok (outIn n f (now (work .entry))) (now (output .entry)) ⌝ }
 {
     if !ok {
         return;
     }
-    settle_frame(n, f, ls, cs, work, store, output);
+    settle_frame(n, f, rings, work, store, output);
 }
 
 // Judges a frame that lies in the work memory, its filters `fs`; where all of it is finite, puts it
@@ -139,21 +131,20 @@ pub(crate) fn settle_if(
 pub(crate) fn finish_frame(
     n: usize,
     f: usize,
-    ls: [usize; LINES],
-    cs: [Cursors; LINES],
+    rings: Rings,
     fs: [Filter; FILTERS],
     store: &mut [f32],
     work: &mut [f32],
     output: &mut [f32],
 ) -> bool
-    requires { ⌜ SettleFits n f ls cs (length (now store)) (length (now work)) (length (now output)) ⌝ }
+    requires { ⌜ SettleFits n f rings (length (now store)) (length (now work)) (length (now output)) ⌝ }
     ensures { λ r. ⌜ r ≡ finiteIn n f fs (now (work .entry)) ⌝ }
-    ensures { λ _. ⌜ now (store .exit) ≡ cond (finiteIn n f fs (now (work .entry))) (putIn n f ls cs (now (work .entry)) (now (store .entry))) (now (store .entry)) ⌝ }
+    ensures { λ _. ⌜ now (store .exit) ≡ cond (finiteIn n f fs (now (work .entry))) (putIn n f rings (now (work .entry)) (now (store .entry))) (now (store .entry)) ⌝ }
     ensures { λ _. ⌜ now (work .exit) ≡ replicate (length (now (work .entry))) +0 ⌝ }
     ensures { λ _. ⌜ now (output .exit) ≡ cond (finiteIn n f fs (now (work .entry))) (outIn n f (now (work .entry))) (now (output .entry)) ⌝ }
 {
     let ok = frame_finite(n, f, fs, work);
-    settle_if(ok, n, f, ls, cs, work, store, output);
+    settle_if(ok, n, f, rings, work, store, output);
     clear(work);
     ok
 }
@@ -175,13 +166,11 @@ pub(crate) fn judge_frame(
     requires { ⌜ FrameFits n f rings (length (now store)) (length (now work)) ⌝ }
     requires { ⌜ (length (now output) ≡ f) × (3 * n + 3 ≡ filtersLen wall) ⌝ }
     ensures { λ r. ⌜ r ≡ judgedOf (frameBy n f factor divisor tail rings fs (take f (now (work .entry))) (now (store .entry))) ⌝ }
-    ensures { λ _. ⌜ now (store .exit) ≡ judgedStore n f (rings .lengths) (rings .lines) (frameBy n f factor divisor tail rings fs (take f (now (work .entry))) (now (store .entry))) (now (store .entry)) ⌝ }
+    ensures { λ _. ⌜ now (store .exit) ≡ judgedStore n f rings (frameBy n f factor divisor tail rings fs (take f (now (work .entry))) (now (store .entry))) (now (store .entry)) ⌝ }
     ensures { λ _. ⌜ now (work .exit) ≡ replicate (length (now (work .entry))) +0 ⌝ }
     ensures { λ _. ⌜ now (output .exit) ≡ judgedOut (frameBy n f factor divisor tail rings fs (take f (now (work .entry))) (now (store .entry))) (now (output .entry)) ⌝ }
 {
     let gs = frame_rows(n, f, factor, divisor, tail, rings, fs, store, work);
-    let ls = rings.lengths;
-    let cs = rings.lines;
-    let ok = finish_frame(n, f, ls, cs, gs, store, work, output);
+    let ok = finish_frame(n, f, rings, gs, store, work, output);
     Judged { ok, filters: gs }
 }

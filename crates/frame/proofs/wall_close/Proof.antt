@@ -4,25 +4,25 @@ use denote.Ref.{now}
 use mathlib.Core.Path.{refl, ap, _∙_}
 use mathlib.Core.Bool.{Bool, cond}
 use Rattle.unit.specs.Model.{wall}
-use Rattle.stages.specs.Settle.{putRows}
 use Rattle.rows.specs.Rows.{Rows, rowsOf}
 use Rattle.frame.specs.Steps.{steppedOn, leftBy}
+use Rattle.frame.specs.Workers.{putInto}
 use Rattle.frame.proofs.FrameParts.{settle-fits}
 use Rattle.frame.proofs.RowsOf.{judged-rows}
 use Rattle.frame.proofs.wall_close.Statement.{statement}
 use Rattle.frame.proofs.wall_close.Tie as tie
 
 finish-frame-requires : tie.Need-finish-frame-requires
-finish-frame-requires c κs = let p = c .before .before .before .before .before .before .before .before .pre in settle-fits _ _ _ _ _ _ _ (p .fits) refl (p .out)
+finish-frame-requires c κs = let p = c .before .before .before .before .before .before .pre in settle-fits _ _ _ _ _ _ _ (p .fits) refl (p .out)
 
 moved-on-requires : tie.Need-moved-on-requires
-moved-on-requires c κs = let p = c .before .before .before .before .before .before .before .before .before .before .before .before .before .before .before .pre in (p .short, p .within)
+moved-on-requires c κs = let p = c .before .before .before .before .before .before .before .before .before .before .before .before .before .pre in (p .short, p .within)
 
 returns : tie.Need-returns
 unfolding leftBy rowsOf
 returns c =
     let done = c .before .before .before .before .before .before .before in
-    let a = done .before .before .before .before .before .before .before .before .before .args in
+    let a = done .before .before .before .before .before .before .before .args in
     let g = done .finish-frame .ensures in
     let w = now (a .work) in
     let r : Rows = rowsOf wall (a .f) w in
@@ -30,7 +30,7 @@ returns c =
       c .moved-on .ensures
           ∙ (λ i. steppedOn (a .f) (a .rings) ((g .0 ∙ ok) i) (a .fs)),
       (
-        g .1 .0 ∙ ap (λ (b : Bool). cond b (putRows (a .f) 16 0 (a .rings .lengths) (a .rings .lines) (r .mixed) (r .rings) (now (a .store))) (now (a .store))) ok,
+        g .1 .0 ∙ ap (λ (b : Bool). cond b (putInto 16 (a .f) (a .rings) (r .mixed) (r .rings) (now (a .store))) (now (a .store))) ok,
         (g .1 .1 .0, g .1 .1 .1 ∙ ap (λ (b : Bool). cond b (r .output) (now (a .output))) ok),
       ),
     )

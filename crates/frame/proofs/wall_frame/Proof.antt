@@ -31,7 +31,7 @@ returns c =
       c .moved-on .ensures
           ∙ (λ i. steppedOn (a .f) (a .rings) (ok i) (filters i)),
       (
-        g .1 .0 ∙ ap (λ (r : Frame). judgedStore 16 (a .f) (a .rings .lengths) (a .rings .lines) r (now (a .store))) q,
+        g .1 .0 ∙ ap (λ (r : Frame). judgedStore 16 (a .f) (a .rings) r (now (a .store))) q,
         (g .1 .1 .0, g .1 .1 .1 ∙ ap (λ (r : Frame). judgedOut r (now (a .output))) q),
       ),
     )

@@ -14,7 +14,7 @@ use Rattle.frame.proofs.whole.finish_frame.Reads as finish-frame-reads
 
 finish-frame-requires : tie.Need-finish-frame-requires
 finish-frame-requires c κs =
-    let s = c .before .before .before .before .before .before .before .before .before .before .before .before .before in
+    let s = c .before .before .before .before .before .before .before .before .before .before .before in
     settle-fits _ _ (s .args .rings) _ _ _ _ (s .pre .0) (search needs) (s .pre .1 .0)
 
 -- all 51 filters are handed in
@@ -32,7 +32,7 @@ filters-long s = search needs
 returns : tie.Need-returns
 returns c =
     let done = c .before .before .before .before .before .before in
-    let rowed = done .before .before .before .before .before .before .before .before in
+    let rowed = done .before .before .before .before .before .before in
     let s = rowed .before .before .before .before .before .before in
     let a = s .args in
     let e = rowed .frame-rows .ensures in

@@ -5,10 +5,10 @@ use mathlib.Core.Path.{sym, ap, _∙_}
 use Prim.Native.Nat.{_+_, _-_, _*_}
 use lib.ListN.{length, take, drop, length-drop}
 use denote.Ref.{now}
-use Rattle.stages.specs.Settle.{putRows}
 use Rattle.stages.proofs.RowLaws.{copied-all}
 use Rattle.samples.proofs.Turns.{lent}
 use Rattle.samples.proofs.Lists.{lent-long, end-is}
+use Rattle.frame.specs.Workers.{putInto}
 use Rattle.frame.proofs.whole.settle_frame.Statement.{statement}
 use Rattle.frame.proofs.whole.settle_frame.Tie as tie
 
@@ -41,7 +41,7 @@ returns c =
     let at = a .f + m in
     let e = at + m + a .f in (
       settled .settle .ensures
-          ∙ (λ i. putRows (a .f) (a .n) 0 (a .ls) (a .cs) (lent at m work i) (end-is e work i) (now (a .store))),
+          ∙ (λ i. putInto (a .n) (a .f) (a .rings) (lent at m work i) (end-is e work i) (now (a .store))),
       c .before .before .copy .ensures
           ∙ copied-all (take (e - (at + m)) (drop (at + m) work)) (now (a .output)) (lent-long (at + m) work (a .f) (omega (arith, s .pre .rows)) ∙ sym (s .pre .out))
           ∙ lent (at + m) (a .f) work,
