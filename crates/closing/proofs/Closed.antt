@@ -27,7 +27,7 @@ pub as-ended : (s : State) (store work output : List Float)
     → (r : Rings) → r ≡ unitRings wall (ofState s) → (x : Stepped) (y : Outcome) (store′ work′ output′ : List Float)
     → let l = finished wall (s .frame) r (s .filters) store work output in
     x ≡ l .stepped → store′ ≡ l .store → work′ ≡ l .work → output′ ≡ l .output → y ≡ closedBy (ofState s) x
-    → Ends (machine.ended wall (lend s store work) (rowsOf wall (s .frame) work) output) y store′ work′ output′
+    → Ends (machine.ended wall (lend s store work) (rowsOf (wall .lines) (s .frame) work) output) y store′ work′ output′
 unfolding leftBy machine.ended
 as-ended s store work output room v e x y store′ work′ output′ ex es ew eo ey =
     let here : finished wall (s .frame) v (s .filters) store work output ≡ R =
@@ -42,10 +42,10 @@ as-ended s store work output room v e x y store′ work′ output′ ex es ew eo
     )
   where
     r : Rows
-    r = rowsOf wall (s .frame) work
+    r = rowsOf (wall .lines) (s .frame) work
 
     R : Left
-    R = finishedWithRoom wall (s .frame) (unitRings wall (ofState s)) (s .filters) store work output
+    R = finishedWithRoom (wall .lines) (s .frame) (unitRings wall (ofState s)) (s .filters) store work output
 
     go : (b : Bool) → rowsFinite (s .filters) r ≡ b
         → Ends (machine.ended wall (lend s store work) r output) (closedBy (ofState s) (R .stepped)) (R .store) (R .work) (R .output)

@@ -15,6 +15,7 @@ use Rattle.samples.specs.Binary32.{+0}
 use Rattle.audio_buffer.specs.Verdict.{verdictOf}
 use Rattle.unit.specs.UnitState.{UnitState}
 use Rattle.unit.specs.Model.{Model}
+use Rattle.unit.specs.Room.{unitRings}
 use Rattle.unit.specs.Fresh.{noFrame}
 use Rattle.judges.specs.Marks.{allDone}
 use Rattle.judges.specs.Turns.{judgedClose}
@@ -31,7 +32,7 @@ use Rattle.demands.specs.AnyOrder.{Begins, AnyOrder, CloseRefusesExactly
 use Rattle.demands.proofs.Lent.{close-lent}
 use Rattle.demands.proofs.Refused.{failure-gives-back}
 use Rattle.demands.proofs.AnyOrderMarks.{Legal, true≢false}
-use Rattle.demands.proofs.AnyOrderAt.{Opening, frameIn, Fit, filtersAt, unitWith, unitAt, memoryAt, work-long, cut}
+use Rattle.demands.proofs.AnyOrderAt.{Opening, frameAt, Fit, filtersAt, unitWith, unitAt, memoryAt, work-long, cut}
 use Rattle.demands.proofs.AnyOrderJobs.{wholeRows, all-rows, all-filters}
 use Rattle.demands.proofs.AnyOrderBlank.{idle}
 use Rattle.demands.proofs.AnyOrderOpen.{openingOf, all-ok, lent-ok, Opened, tells, fit, goes, still-in-range}
@@ -49,7 +50,7 @@ module _ (m : Model) (w : Memory) (p : Play) (begins : Begins m (w .unit)) (e : 
   u = w .unit
 
   abbrev R : Frame
-  R = frameIn m o
+  R = frameAt m o
 
   abbrev opens : Opened m w p
   opens = tells m w p begins e
@@ -71,7 +72,7 @@ module _ (m : Model) (w : Memory) (p : Play) (begins : Begins m (w .unit)) (e : 
     unit-is = λ t. unitWith o (all-filters m o fits marks (legal .long) done t) marks
 
     abbrev rows : Rows
-    rows = rowsOf m (u .settings .frame) (v .work)
+    rows = rowsOf (m .lines) (u .settings .frame) (v .work)
 
     rows-are : rows ≡ wholeRows m o
     rows-are = cut m o fits marks ∙ all-rows m o fits marks (legal .long) done
@@ -101,7 +102,7 @@ module _ (m : Model) (w : Memory) (p : Play) (begins : Begins m (w .unit)) (e : 
 
     -- what the rows come to at the close is what the frame comes to
     as-played : ended m (record { unit = full; store = w .store; work = v .work }) (wholeRows m o) output ≡ played m w R (countFor u p) output
-    unfolding ended played rowsFinite frameFinite settled
+    unfolding ended played rowsFinite frameFinite
     as-played =
         λ t.
         cond (frameFinite R)
@@ -110,7 +111,7 @@ module _ (m : Model) (w : Memory) (p : Play) (begins : Begins m (w .unit)) (e : 
           verdict = verdictOf (countFor u p);
           memory = record {
             unit = record { settings = u .settings; cursors = moved m u; count = countFor u p; filters = newFilters R; held = quiet t };
-            store = settled m u R (w .store);
+            store = settled (m .lines) (u .settings .frame) (unitRings m u) (R .lines .put) (R .output .rings) (w .store);
             work = work-is t;
           };
           output = R .output .out;

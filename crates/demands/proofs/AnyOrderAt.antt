@@ -15,8 +15,9 @@ use Rattle.hadamard.specs.Rows.{mixedRows}
 use Rattle.hadamard.proofs.Laws.{rows-length}
 use Rattle.unit.specs.UnitState.{UnitState}
 use Rattle.unit.specs.Model.{Model}
+use Rattle.unit.specs.Room.{unitRings}
 use Rattle.unit.specs.Sizes.{lengths, total, filtersLen, storeLen, workLen}
-use Rattle.stages.specs.Frame.{Frame, frameOf, frameFrom, passesIn, lineRows}
+use Rattle.stages.specs.Frame.{Frame, frameIn, passesIn, lineRows}
 use Rattle.stages.proofs.RowLaws.{Held, length-readRows, length-bandEnds}
 use Rattle.stages.proofs.FrameLaws.{put-beside, out-long}
 use Rattle.judges.specs.Marks.{mixMark, lineMark, outputMark}
@@ -25,7 +26,7 @@ use Rattle.machine.specs.Ending.{Memory}
 use Rattle.demands.proofs.LineRings.{row-long, lines-held}
 use Rattle.demands.proofs.AnyOrderRows.{stacked, length-stacked}
 use Rattle.demands.proofs.AnyOrderFrame.{filters-row, rings-long}
-use Rattle.demands.proofs.AnyOrderWork.{Long, cut-joined, length-joined}
+use Rattle.rows.proofs.Joined.{Long, cut-joined, length-joined}
 use Rattle.demands.proofs.AnyOrderMarks.{at}
 
 -- what an open was given: the unit before it, the frame's kind, its filters, the count to be set, the input row, and the store
@@ -38,12 +39,13 @@ pub record Opening : Type 0 where
   pub store : List Float
 
 -- its whole frame
-abbrev pub frameIn : Model → Opening → Frame
-frameIn m o = frameOf m (o .tail) (o .unit) (o .filters) (o .input) (o .store)
+abbrev pub frameAt : Model → Opening → Frame
+frameAt m o =
+    frameIn (m .lines) (o .unit .settings .frame) (m .factor) (m .divisor) (o .tail) (unitRings m (o .unit)) (o .filters) (o .input) (o .store)
 
 -- the lengths that an accepted open has seen to
 pub record Fit (m : Model) (o : Opening) : Type 0 where
-  pub passes : length (m .passes) ≡ 4
+  pub passes : length (m .passLengths) ≡ 4
   pub fours : o .unit .settings .frame % 4 ≡ 0
   pub filters : length (o .filters) ≡ filtersLen m
   pub input : length (o .input) ≡ o .unit .settings .frame
@@ -56,26 +58,26 @@ silence o = replicate (o .unit .settings .frame) +0
 
 -- line i's row that was read, its mixed row, which becomes the row to put, and its filters
 abbrev pub readAt : Model → Opening → List Bool → ℕ → List Float
-readAt m o marks i = cond (at marks i) (row (o .unit .settings .frame) i (frameIn m o .reads)) (silence o)
+readAt m o marks i = cond (at marks i) (row (o .unit .settings .frame) i (frameAt m o .reads)) (silence o)
 
 abbrev pub mixedAt : Model → Opening → List Bool → ℕ → List Float
 mixedAt m o marks i =
     cond (at marks (mixMark m))
-    (cond (at marks (lineMark m i)) (row (o .unit .settings .frame) i (frameIn m o .lines .put)) (row (o .unit .settings .frame) i (frameIn m o .lines .mixed)))
+    (cond (at marks (lineMark m i)) (row (o .unit .settings .frame) i (frameAt m o .lines .put)) (row (o .unit .settings .frame) i (frameAt m o .lines .mixed)))
     (silence o)
 
 abbrev pub bandsAt : Model → Opening → List Bool → ℕ → List Filter
-bandsAt m o marks i = cond (at marks (lineMark m i)) (row 3 i (frameIn m o .lines .filters)) (row 3 i (o .filters))
+bandsAt m o marks i = cond (at marks (lineMark m i)) (row 3 i (frameAt m o .lines .filters)) (row 3 i (o .filters))
 
 -- the output row, the allpass rings and the tone's filters
 abbrev pub outputAt : Model → Opening → List Bool → List Float
-outputAt m o marks = cond (at marks (outputMark m)) (frameIn m o .output .out) (silence o)
+outputAt m o marks = cond (at marks (outputMark m)) (frameAt m o .output .out) (silence o)
 
 abbrev pub ringsAt : Model → Opening → List Bool → List Float
-ringsAt m o marks = cond (at marks (outputMark m)) (frameIn m o .output .rings) (passesIn (lengths m (o .unit)) (o .store))
+ringsAt m o marks = cond (at marks (outputMark m)) (frameAt m o .output .rings) (passesIn (lengths m (o .unit)) (o .store))
 
 abbrev pub toneAt : Model → Opening → List Bool → List Filter
-toneAt m o marks = cond (at marks (outputMark m)) (frameIn m o .output .filters) (drop (3 * m .lines) (o .filters))
+toneAt m o marks = cond (at marks (outputMark m)) (frameAt m o .output .filters) (drop (3 * m .lines) (o .filters))
 
 abbrev pub rowsAt : Model → Opening → List Bool → Rows
 rowsAt m o marks = record {
@@ -118,7 +120,7 @@ module _ (m : Model) (o : Opening) (h : Fit m o) where
   f = o .unit .settings .frame
 
   abbrev R : Frame
-  R = frameIn m o
+  R = frameAt m o
 
   -- ---- lengths
 
@@ -127,32 +129,32 @@ module _ (m : Model) (o : Opening) (h : Fit m o) where
   held = lines-held m (o .unit) (length (o .store)) (omega (arith, h .store))
 
   pub reads-long : length (R .reads) ≡ n * f
-  unfolding frameFrom
+  unfolding frameIn
   reads-long = length-readRows f (lengths m (o .unit)) (o .unit .cursors .lines) n 0 (o .store) held
 
   pub mixed-long : length (R .lines .mixed) ≡ n * f
-  unfolding frameFrom lineRows
+  unfolding frameIn lineRows
   mixed-long = rows-length n f (m .factor) (R .reads)
 
   pub put-long : length (R .lines .put) ≡ n * f
-  unfolding frameFrom
+  unfolding frameIn
   put-long = put-beside n f (m .factor) (o .filters) (o .input) (R .reads) (o .tail) (h .input)
 
   pub ends-long : length (R .lines .filters) ≡ n * 3
-  unfolding frameFrom lineRows
+  unfolding frameIn lineRows
   ends-long = length-bandEnds f n 0 (o .filters) (mixedRows n f (m .factor) (R .reads)) ∙ omega arith
 
   ends-three : (i : ℕ) → i < n → length (row 3 i (R .lines .filters)) ≡ 3
-  unfolding frameFrom
+  unfolding frameIn
   ends-three i b = ap length (filters-row n f (m .factor) (o .tail) (o .filters) (o .input) (R .reads) i b)
 
-  begun-long : length (passesIn (lengths m (o .unit)) (o .store)) ≡ total (m .passes)
+  begun-long : length (passesIn (lengths m (o .unit)) (o .store)) ≡ total (m .passLengths)
   unfolding storeLen
   begun-long = simp length-drop (omega (arith, h .store))
 
-  done-long : length (R .output .rings) ≡ total (m .passes)
-  unfolding frameFrom
-  done-long = rings-long n f (m .divisor) (m .passes) (o .unit .cursors .passes) (o .filters) (passesIn (lengths m (o .unit)) (o .store)) (R .reads) (h .passes) begun-long
+  done-long : length (R .output .rings) ≡ total (m .passLengths)
+  unfolding frameIn
+  done-long = rings-long n f (m .divisor) (m .passLengths) (o .unit .cursors .passes) (o .filters) (passesIn (lengths m (o .unit)) (o .store)) (R .reads) (h .passes) begun-long
 
   silence-long : length (silence o) ≡ f
   silence-long = length-replicate f +0
@@ -179,15 +181,15 @@ module _ (m : Model) (o : Opening) (h : Fit m o) where
     bands-long i b = cond-long (at marks (lineMark m i)) _ _ 3 (ends-three i b) (three-long i b)
 
     pub output-long : length (outputAt m o marks) ≡ f
-    unfolding frameFrom
+    unfolding frameIn
     output-long =
         cond-long (at marks (outputMark m)) _ _ f
-        (out-long n f (m .divisor) (m .passes) (o .unit .cursors .passes) (o .filters) (passesIn (lengths m (o .unit)) (o .store)) (R .reads) (h .fours)) silence-long
+        (out-long n f (m .divisor) (m .passLengths) (o .unit .cursors .passes) (o .filters) (passesIn (lengths m (o .unit)) (o .store)) (R .reads) (h .fours)) silence-long
 
-    pub rings-at-long : length (ringsAt m o marks) ≡ total (m .passes)
-    rings-at-long = cond-long (at marks (outputMark m)) _ _ (total (m .passes)) done-long begun-long
+    pub rings-at-long : length (ringsAt m o marks) ≡ total (m .passLengths)
+    rings-at-long = cond-long (at marks (outputMark m)) _ _ (total (m .passLengths)) done-long begun-long
 
-    pub long : Long m f (rowsAt m o marks)
+    pub long : Long (m .lines) f (rowsAt m o marks)
     long = record {
       input = h .input;
       reads = length-stacked f n (readAt m o marks) read-long;
@@ -198,5 +200,5 @@ module _ (m : Model) (o : Opening) (h : Fit m o) where
     pub work-long : length (joinedRows (rowsAt m o marks)) ≡ workLen m f
     work-long = length-joined m f (rowsAt m o marks) long rings-at-long
 
-    pub cut : rowsOf m f (joinedRows (rowsAt m o marks)) ≡ rowsAt m o marks
-    cut = cut-joined m f (rowsAt m o marks) long
+    pub cut : rowsOf (m .lines) f (joinedRows (rowsAt m o marks)) ≡ rowsAt m o marks
+    cut = cut-joined (m .lines) f (rowsAt m o marks) long

@@ -71,7 +71,7 @@ pub idle : (m : Model) (u : UnitState) → Sized m u → inRange m u ≡ true �
 unfolding inRange blankOpen unmarked blankFilters
 idle m u b r shut =
     let p = split-and (rateOk (u .settings .rate) && frameOk (u .settings .frame)) _ r in
-    let q = split-and (cursorsIn (lengths m u) (u .cursors .lines) && cursorsIn (m .passes) (u .cursors .passes)) _ (p .1) in
+    let q = split-and (cursorsIn (lengths m u) (u .cursors .lines) && cursorsIn (m .passLengths) (u .cursors .passes)) _ (p .1) in
     let open-blank : blankOpen u ≡ true = rw shut at (q .1) in
     let s = split-and (not (u .held .tail)) _ open-blank in
     let t = split-and (isZero (u .held .next)) _ (s .1) in

@@ -19,7 +19,7 @@ use Rattle.unit.specs.UnitState.{UnitState}
 use Rattle.unit.specs.Model.{Model}
 use Rattle.unit.specs.Sizes.{lengths, jobsLen}
 use Rattle.stages.specs.Lines.{noFilter, three, threeOf, plus}
-use Rattle.stages.specs.Frame.{Frame, OutputRow, frameFrom, passesIn, lineRows, newFilters}
+use Rattle.stages.specs.Frame.{Frame, OutputRow, frameIn, passesIn, lineRows, newFilters}
 use Rattle.judges.specs.Marks.{mixMark, lineMark, outputMark, allDone}
 use Rattle.rows.specs.Rows.{Rows, rowsOf, joinedRows}
 use Rattle.rows.specs.Parts.{lineIn, lineLaid, lineEnds}
@@ -30,7 +30,7 @@ use Rattle.demands.proofs.AnyOrderRows.{stacked, stacked-same, length-s
 use Rattle.rows.proofs.RowAt.{over-row, next-row}
 use Rattle.demands.proofs.AnyOrderFrame.{put-row, filters-row, three-row, output-asks, tone-long}
 use Rattle.demands.proofs.AnyOrderMarks.{at, true≢false, false-of, set-here, set-there, done-at, read-at, Legal}
-use Rattle.demands.proofs.AnyOrderAt.{Opening, frameIn, Fit, silence, readAt, mixedAt, bandsAt, outputAt, ringsAt, toneAt, rowsAt, filtersAt, unitAt, memoryAt}
+use Rattle.demands.proofs.AnyOrderAt.{Opening, frameAt, Fit, silence, readAt, mixedAt, bandsAt, outputAt, ringsAt, toneAt, rowsAt, filtersAt, unitAt, memoryAt}
 use Rattle.demands.proofs.AnyOrderAt.{held, reads-long, mixed-long, put-long, ends-long, read-long, mix-long, bands-long, cut}
 
 -- steps 4 and 5 of a unit
@@ -48,7 +48,7 @@ module _ (m : Model) (o : Opening) (h : Fit m o) (marks : List Bool) where
   f = o .unit .settings .frame
 
   abbrev R : Frame
-  R = frameIn m o
+  R = frameAt m o
 
   -- ---- what a new mark k leaves as it was
 
@@ -96,7 +96,7 @@ module _ (m : Model) (o : Opening) (h : Fit m o) (marks : List Bool) where
       read-there j c e = omega arith
 
       read-is : readRow m (unitAt m o marks) i (o .store) ≡ readAt m o (set marks i true) i
-      unfolding frameFrom
+      unfolding frameIn
       read-is =
           let e = rw zero-add at (read-row f (lengths m (o .unit)) (o .unit .cursors .lines) n 0 i (o .store) b (held m o h)) in
           sym e ∙ rw (set-here marks i (omega (arith, g .long))) refl
@@ -137,7 +137,7 @@ module _ (m : Model) (o : Opening) (h : Fit m o) (marks : List Bool) where
 
       -- no line is marked yet
       mix-is : mixedRows n f (m .factor) (stacked n (readAt m o marks)) ≡ stacked n (mixedAt m o (set marks (mixMark m) true))
-      unfolding frameFrom lineRows
+      unfolding frameIn lineRows
       mix-is =
           ap (mixedRows n f (m .factor)) (all-reads e (omega (arith, g .long)))
           ∙ sym (stacked-all f n (R .lines .mixed) (mixed-long m o h))
@@ -190,7 +190,7 @@ module _ (m : Model) (o : Opening) (h : Fit m o) (marks : List Bool) where
           ∙ sym (three-row i (o .filters))
 
       line-is : lineRow (unitAt m o marks) i (rowsAt m o marks) ≡ mixedAt m o lined i
-      unfolding frameFrom lineRows
+      unfolding frameIn lineRows
       line-is =
           let out : Bands → List Float → List Float = λ bs xs. cond (o .tail) (bandsOut bs xs) (plus (bandsOut bs xs) (o .input)) in
           (λ t. out (its-filters t) (its-row t))
@@ -218,8 +218,8 @@ module _ (m : Model) (o : Opening) (h : Fit m o) (marks : List Bool) where
             rings = rings-kept (lineMark m i) (λ q. omega arith) t;
           }))
 
-      ends-are : threeOf (bandsEnd (three (3 * i) (filtersAt m o marks)) (row f i (rowsOf m f (joinedRows (rowsAt m o marks)) .mixed))) ≡ bandsAt m o lined i
-      unfolding frameFrom lineRows
+      ends-are : threeOf (bandsEnd (three (3 * i) (filtersAt m o marks)) (row f i (rowsOf (m .lines) f (joinedRows (rowsAt m o marks)) .mixed))) ≡ bandsAt m o lined i
+      unfolding frameIn lineRows
       ends-are =
           (λ t. threeOf (bandsEnd (its-filters t) (row f i (cut m o h marks t .mixed))))
           ∙ ap (λ (xs : List Float). threeOf (bandsEnd (three (3 * i) (o .filters)) xs)) its-row
@@ -263,12 +263,12 @@ module _ (m : Model) (o : Opening) (h : Fit m o) (marks : List Bool) where
       tone-same = λ t. record { f0 = (rw add-zero at (tone-at 0)) t; f1 = tone-at 1 t; f2 = tone-at 2 t }
 
       output-is : outputOf m (unitAt m o marks) (rowsAt m o marks) ≡ R .output
-      unfolding frameFrom
+      unfolding frameIn
       output-is =
-          output-asks n f (m .divisor) (m .passes) (o .unit .cursors .passes) (o .filters) (filtersAt m o marks) (ringsAt m o marks) (stacked n (readAt m o marks)) tone-same
+          output-asks n f (m .divisor) (m .passLengths) (o .unit .cursors .passes) (o .filters) (filtersAt m o marks) (ringsAt m o marks) (stacked n (readAt m o marks)) tone-same
           ∙ rw (undone, all-reads e (omega (arith, g .long))) refl
 
-      output-cut : outputOf m (unitAt m o marks) (rowsOf m f (joinedRows (rowsAt m o marks))) ≡ R .output
+      output-cut : outputOf m (unitAt m o marks) (rowsOf (m .lines) f (joinedRows (rowsAt m o marks))) ≡ R .output
       output-cut = ap (outputOf m (unitAt m o marks)) (cut m o h marks) ∙ output-is
 
       pub output-work : jobWork m (memoryAt m o marks) outputJob ≡ joinedRows (rowsAt m o out)
@@ -290,9 +290,9 @@ module _ (m : Model) (o : Opening) (h : Fit m o) (marks : List Bool) where
           }))
 
       pub output-filters : jobFilters m (memoryAt m o marks) outputJob ≡ filtersAt m o out
-      unfolding outputEnds frameFrom
+      unfolding outputEnds frameIn
       output-filters =
-          let tone : length (R .output .filters) ≡ 3 = tone-long n f (m .divisor) (m .passes) (o .unit .cursors .passes) (o .filters) (passesIn (lengths m (o .unit)) (o .store)) (R .reads) in
+          let tone : length (R .output .filters) ≡ 3 = tone-long n f (m .divisor) (m .passLengths) (o .unit .cursors .passes) (o .filters) (passesIn (lengths m (o .unit)) (o .store)) (R .reads) in
           let old : length (toneAt m o marks) ≡ 3 = rw undone (simp length-drop (omega (arith, h .filters))) in
           (λ t. over (3 * n) (output-cut t .filters) (filtersAt m o marks))
           ∙ over-end (3 * n) (R .output .filters) (stacked n (bandsAt m o marks)) (toneAt m o marks) lines-long (old ∙ sym tone)
@@ -338,8 +338,8 @@ module _ (m : Model) (o : Opening) where
         input = o .input;
         reads = (silent ∙ reads) t;
         mixed = (silent ∙ mixed) t;
-        output = cond (sym no-output t) (frameIn m o .output .out) (silence o);
-        rings = cond (sym no-output t) (frameIn m o .output .rings) (passesIn (lengths m (o .unit)) (o .store));
+        output = cond (sym no-output t) (frameAt m o .output .out) (silence o);
+        rings = cond (sym no-output t) (frameAt m o .output .rings) (passesIn (lengths m (o .unit)) (o .store));
       })
 
 -- ---- all marks
@@ -348,10 +348,10 @@ module _ (m : Model) (o : Opening) where
 abbrev pub wholeRows : Model → Opening → Rows
 wholeRows m o = record {
   input = o .input;
-  reads = frameIn m o .reads;
-  mixed = frameIn m o .lines .put;
-  output = frameIn m o .output .out;
-  rings = frameIn m o .output .rings;
+  reads = frameAt m o .reads;
+  mixed = frameAt m o .lines .put;
+  output = frameAt m o .output .out;
+  rings = frameAt m o .output .rings;
 }
 
 module _ (m : Model) (o : Opening) (h : Fit m o) (marks : List Bool) (long : length marks ≡ jobsLen m) (done : allDone marks ≡ true) where
@@ -364,24 +364,24 @@ module _ (m : Model) (o : Opening) (h : Fit m o) (marks : List Bool) (long : len
   pub all-rows : rowsAt m o marks ≡ wholeRows m o
   all-rows =
       let f = o .unit .settings .frame in
-      let reads : stacked (m .lines) (readAt m o marks) ≡ frameIn m o .reads =
-      stacked-same (m .lines) (readAt m o marks) (λ i. row f i (frameIn m o .reads)) (λ i b. rw (marked-at i (omega arith)) refl)
-      ∙ stacked-all f (m .lines) (frameIn m o .reads) (reads-long m o h) in
-      let mixed : stacked (m .lines) (mixedAt m o marks) ≡ frameIn m o .lines .put =
-      stacked-same (m .lines) (mixedAt m o marks) (λ i. row f i (frameIn m o .lines .put))
+      let reads : stacked (m .lines) (readAt m o marks) ≡ frameAt m o .reads =
+      stacked-same (m .lines) (readAt m o marks) (λ i. row f i (frameAt m o .reads)) (λ i b. rw (marked-at i (omega arith)) refl)
+      ∙ stacked-all f (m .lines) (frameAt m o .reads) (reads-long m o h) in
+      let mixed : stacked (m .lines) (mixedAt m o marks) ≡ frameAt m o .lines .put =
+      stacked-same (m .lines) (mixedAt m o marks) (λ i. row f i (frameAt m o .lines .put))
       (λ i b. rw (marked-at (mixMark m) (omega arith), marked-at (lineMark m i) (omega arith)) refl)
-      ∙ stacked-all f (m .lines) (frameIn m o .lines .put) (put-long m o h) in
+      ∙ stacked-all f (m .lines) (frameAt m o .lines .put) (put-long m o h) in
       λ t. record {
         input = o .input;
         reads = reads t;
         mixed = mixed t;
-        output = cond (its-output t) (frameIn m o .output .out) (silence o);
-        rings = cond (its-output t) (frameIn m o .output .rings) (passesIn (lengths m (o .unit)) (o .store));
+        output = cond (its-output t) (frameAt m o .output .out) (silence o);
+        rings = cond (its-output t) (frameAt m o .output .rings) (passesIn (lengths m (o .unit)) (o .store));
       }
 
-  pub all-filters : filtersAt m o marks ≡ newFilters (frameIn m o)
+  pub all-filters : filtersAt m o marks ≡ newFilters (frameAt m o)
   all-filters =
-      let lines : stacked (m .lines) (bandsAt m o marks) ≡ frameIn m o .lines .filters =
-      stacked-same (m .lines) (bandsAt m o marks) (λ i. row 3 i (frameIn m o .lines .filters)) (λ i b. rw (marked-at (lineMark m i) (omega arith)) refl)
-      ∙ stacked-all 3 (m .lines) (frameIn m o .lines .filters) (ends-long m o h) in
-      λ t. lines t ++ cond (its-output t) (frameIn m o .output .filters) (drop (3 * m .lines) (o .filters))
+      let lines : stacked (m .lines) (bandsAt m o marks) ≡ frameAt m o .lines .filters =
+      stacked-same (m .lines) (bandsAt m o marks) (λ i. row 3 i (frameAt m o .lines .filters)) (λ i b. rw (marked-at (lineMark m i) (omega arith)) refl)
+      ∙ stacked-all 3 (m .lines) (frameAt m o .lines .filters) (ends-long m o h) in
+      λ t. lines t ++ cond (its-output t) (frameAt m o .output .filters) (drop (3 * m .lines) (o .filters))

@@ -18,7 +18,7 @@ use Rattle.unit.specs.Model.{Model}
 use Rattle.unit.specs.Sizes.{lengths, filtersLen, jobsLen, storeLen, workLen, coefficientsLen}
 use Rattle.unit.specs.Range.{inRange, cursorsIn}
 use Rattle.judges.specs.Judges.{judged, storeOk, workOk, lentOk, givenOk, judgedGiven}
-use Rattle.stages.specs.Frame.{Frame, frameFrom, lineRows}
+use Rattle.stages.specs.Frame.{Frame, lineRows}
 use Rattle.stages.proofs.RowLaws.{length-filtersOf}
 use Rattle.machine.specs.Whole.{Play, apply, tail, isTail, filtersFor, inputFor, countFor, frameFor, wholeDue}
 use Rattle.machine.specs.Jobs.{memoryOpened}
@@ -28,7 +28,7 @@ use Rattle.machine.specs.Requests.{Request}
 use Rattle.demands.specs.AnyOrder.{Between, Begins, worked}
 use Rattle.demands.proofs.Lent.{or-first, or-second, told, not-is}
 use Rattle.demands.proofs.AnyOrderMarks.{legal-none}
-use Rattle.demands.proofs.AnyOrderAt.{Opening, frameIn, Fit, unitWith, memoryAt}
+use Rattle.demands.proofs.AnyOrderAt.{Opening, frameAt, Fit, unitWith, memoryAt}
 use Rattle.demands.proofs.AnyOrderJobs.{none-filters, none-work}
 use Rattle.demands.proofs.AnyOrderRequests.{Goes, order}
 
@@ -107,7 +107,7 @@ module _ (m : Model) (w : Memory) (p : Play) (begins : Begins m (w .unit)) (e : 
   u = w .unit
 
   abbrev R : Frame
-  R = frameIn m o
+  R = frameAt m o
 
   pub tells : Opened m w p
   tells = opened-told m w p e
@@ -145,5 +145,5 @@ module _ (m : Model) (w : Memory) (p : Play) (begins : Begins m (w .unit)) (e : 
   unfolding inRange
   still-in-range fs marks =
       let sizes = split-and (rateOk (u .settings .rate) && frameOk (u .settings .frame)) _ (tells .range) in
-      let cursors = split-and (cursorsIn (lengths m u) (u .cursors .lines) && cursorsIn (m .passes) (u .cursors .passes)) _ (sizes .1) in
+      let cursors = split-and (cursorsIn (lengths m u) (u .cursors .lines) && cursorsIn (m .passLengths) (u .cursors .passes)) _ (sizes .1) in
       join-and (sizes .0) (join-and (cursors .0) refl)

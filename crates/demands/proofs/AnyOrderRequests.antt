@@ -16,7 +16,6 @@ use Rattle.samples.specs.Binary32.{+0}
 use Rattle.samples.proofs.Laws.{split-and, is-accepted, accept-no}
 use Rattle.unit.specs.Model.{Model}
 use Rattle.judges.specs.Judges.{judgedFresh, judgedReset}
-use Rattle.stages.specs.Settle.{frameFinite, settled, putRows}
 use Rattle.stages.specs.Frame.{newFilters}
 use Rattle.machine.specs.Whole.{counted, movedOn, Play, countFor, frameFor, wholeDue, atOnce}
 use Rattle.judges.specs.Marks.{mixMark, lineMark, outputMark, allRead}

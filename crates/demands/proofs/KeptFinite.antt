@@ -25,7 +25,7 @@ use Rattle.unit.specs.Sizes.{filtersLen}
 use Rattle.unit.specs.Fresh.{blank, freshUnit}
 use Rattle.judges.specs.Judges.{judgedFresh}
 use Rattle.stages.specs.Frame.{Frame, newFilters}
-use Rattle.stages.specs.Settle.{filtersFinite, frameFinite, putRows, settled}
+use Rattle.stages.specs.Settle.{filtersFinite, frameFinite, putRows}
 use Rattle.rows.specs.Rows.{Rows, rowsOf}
 use Rattle.frame.specs.Parts.{rowsFinite}
 use Rattle.machine.specs.Ending.{Memory, Ending}
@@ -138,7 +138,7 @@ module _ (m : Model) where
   call-fine w (close output) h =
       let u = w .unit in
       close-either m w output (λ (x : Ending). FineIn (x .memory))
-      (λ d q. rows-finite (u .filters) (rowsOf m (u .settings .frame) (w .work)) q .filters)
+      (λ d q. rows-finite (u .filters) (rowsOf (m .lines) (u .settings .frame) (w .work)) q .filters)
       (λ d q. from-before u (close-lent m u (length (w .store)) (length (w .work)) (length output) d .busy) h)
       (λ n. h)
   call-fine w abandon h =
@@ -173,7 +173,7 @@ module _ (m : Model) where
   Sound v = allFinite (v .store) ≡ true
 
   call-finite : (w : Memory) (c : Call) → Sound w → Sound (after m w c)
-  unfolding ending settled
+  unfolding ending
   call-finite w reset h = accept-either Sound (answer m w reset) (λ e. finite-zeros (length (w .store))) (λ n. h)
   call-finite w (whole p output) h =
       let r = frameFor m (w .unit) p (w .store) in
@@ -184,7 +184,7 @@ module _ (m : Model) where
   call-finite w (start p) h = accept-either Sound (answer m w (start p)) (λ e. h) (λ n. h)
   call-finite w (job j) h = accept-either Sound (answer m w (job j)) (λ e. h) (λ n. h)
   call-finite w (close output) h =
-      let r = rowsOf m (w .unit .settings .frame) (w .work) in
+      let r = rowsOf (m .lines) (w .unit .settings .frame) (w .work) in
       close-either m w output (λ (x : Ending). Sound (x .memory))
       (λ d q. let k = rows-finite (w .unit .filters) r q in finite-put _ _ 0 _ _ (r .mixed) (r .rings) (w .store) (k .put) (k .rings) h)
       (λ d q. h)

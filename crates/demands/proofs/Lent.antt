@@ -23,7 +23,7 @@ use Rattle.unit.specs.Sizes.{lengths, coefficientsLen, filtersLen, storeLen, wo
 use Rattle.unit.specs.Fresh.{freshUnit}
 use Rattle.unit.specs.Range.{inRange, below, cursorsIn}
 use Rattle.judges.specs.Judges.{judged, judgedFresh, judgedReset, judgedGiven, givenOk, lentOk, storeOk, workOk}
-use Rattle.stages.specs.Frame.{frameFrom}
+use Rattle.stages.specs.Frame.{frameIn}
 use Rattle.stages.proofs.FrameLaws.{put-beside}
 use Rattle.judges.specs.Marks.{allDone}
 use Rattle.judges.specs.Turns.{judgedClose}
@@ -127,7 +127,7 @@ module _ (m : Model) (u : UnitState) (store : ℕ) where
 -- a whole call's rows to put are as long as those read
 pub whole-put : (m : Model) (u : UnitState) (p : Play) (store : List Float) → length (inputFor u p) ≡ u .settings .frame
     → length (frameFor m u p store .lines .put) ≡ m .lines * u .settings .frame
-unfolding frameFrom
+unfolding frameIn
 whole-put m u p store e =
     put-beside (m .lines) (u .settings .frame) (m .factor) (filtersFor m u p) (inputFor u p) (frameFor m u p store .reads) (isTail p) e
 
@@ -148,7 +148,7 @@ pub within : (m : Model) (u : UnitState) (i : ℕ) → inRange m u ≡ true → 
 unfolding inRange cursorsIn below
 within m u i e h =
     let p = split-and (rateOk (u .settings .rate) && frameOk (u .settings .frame)) _ e in
-    let q = split-and (cursorsIn (lengths m u) (u .cursors .lines) && cursorsIn (m .passes) (u .cursors .passes)) _ (p .1) in
+    let q = split-and (cursorsIn (lengths m u) (u .cursors .lines) && cursorsIn (m .passLengths) (u .cursors .passes)) _ (p .1) in
     let r = split-and (cursorsIn (lengths m u) (u .cursors .lines)) _ (q .0) in
     let c = rw zero-add at (all-at (λ j c. below (getD (lengths m u) j 0) c) (u .cursors .lines) 0 i (both 0) h (r .0)) in
     ltb-true _ _ (split-and _ _ c .0)

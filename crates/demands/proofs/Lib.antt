@@ -9,7 +9,6 @@ pub mod TheCalls
 pub mod LineRings
 pub mod LineTurn
 pub mod AnyOrderRows
-pub mod AnyOrderWork
 pub mod AnyOrderMarks
 pub mod AnyOrderFrame
 pub mod AnyOrderAt

@@ -26,8 +26,8 @@ use Rattle.unit.specs.Model.{Model}
 use Rattle.unit.specs.Sizes.{lengths, jobsLen, storeLen, workLen}
 use Rattle.unit.specs.Fresh.{freshUnit}
 use Rattle.judges.specs.Judges.{storeOk, workOk}
-use Rattle.stages.specs.Frame.{frameFrom, newFilters}
-use Rattle.stages.specs.Settle.{settled, allMoved, putRows}
+use Rattle.stages.specs.Frame.{frameIn, newFilters}
+use Rattle.stages.specs.Settle.{allMoved, putRows}
 use Rattle.machine.specs.Whole.{counted, movedOn, Play, countFor, frameFor, wholeDue}
 use Rattle.judges.specs.Marks.{marked, mixMark, lineMark, outputMark}
 use Rattle.judges.specs.Turns.{judgedClose}
@@ -164,7 +164,7 @@ module _ (m : Model) (i : ℕ) (h : i < m .lines) (l : ℕ) where
 
   -- row i of what a whole call reads
   whole-row : (u : UnitState) (p : Play) (store : List Float) → Lent m u (length store) → row (u .settings .frame) i (frameFor m u p store .reads) ≡ readRow m u i store
-  unfolding frameFrom
+  unfolding frameIn
   whole-row u p store lent =
       rw zero-add at (read-row (u .settings .frame) (lengths m u) (u .cursors .lines) (m .lines) 0 i store h (held m i h u store lent))
 
@@ -185,7 +185,7 @@ module _ (m : Model) (i : ℕ) (h : i < m .lines) (l : ℕ) where
     refused-holds read put due output n = rw (accept-no due (traded a read put) a n) inv
 
     whole-holds : (p : Play) (output : List Float) → Then (whole p output)
-    unfolding ending noted settled
+    unfolding ending noted
     whole-holds p output =
         let r = frameFor m u p (w .store) in
         let f = u .settings .frame in
@@ -201,7 +201,7 @@ module _ (m : Model) (i : ℕ) (h : i < m .lines) (l : ℕ) where
     unfolding ending noted
     close-holds output =
         let f = u .settings .frame in
-        let r = rowsOf m f (w .work) in
+        let r = rowsOf (m .lines) f (w .work) in
         close-either m w output (Ends (a .waiting) (row f i (r .mixed)))
         (λ d q.
         let t = close-lent m u (length (w .store)) (length (w .work)) (length output) d in
@@ -227,7 +227,7 @@ module _ (m : Model) (i : ℕ) (h : i < m .lines) (l : ℕ) where
     read-holds j = go (eqb j i) refl
       where
         left : List Float
-        left = row (u .settings .frame) i (rowsOf m (u .settings .frame) (jobWork m w (readJob j)) .reads)
+        left = row (u .settings .frame) i (rowsOf (m .lines) (u .settings .frame) (jobWork m w (readJob j)) .reads)
 
         new : Account
         new = record { out = a .out; given = a .given; waiting = left }
@@ -235,7 +235,7 @@ module _ (m : Model) (i : ℕ) (h : i < m .lines) (l : ℕ) where
         its-row : j ≡ i → answer m w (job (readJob j)) ≡ Accepted → left ≡ readRow m u i (w .store)
         its-row q e =
             let t = read-told j e in
-            ap (λ (k : ℕ). row (u .settings .frame) i (rowsOf m (u .settings .frame) (jobWork m w (readJob k)) .reads)) q
+            ap (λ (k : ℕ). row (u .settings .frame) i (rowsOf (m .lines) (u .settings .frame) (jobWork m w (readJob k)) .reads)) q
             ∙ read-left m u i (w .store) (w .work) h (t .1) (read-long m i h u (w .store) (t .0))
 
         then : Memory

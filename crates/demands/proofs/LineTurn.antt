@@ -25,7 +25,7 @@ use Rattle.machine.specs.Jobs.{readRow, readWork}
 use Rattle.demands.proofs.Lent.{Lent, cursors, within}
 use Rattle.demands.proofs.LineRings.{row-long, ring-long, put-row, lines-long, line-length, lines-held}
 use Rattle.demands.proofs.LineRings.{moved-at}
-use Rattle.demands.proofs.AnyOrderWork.{Long, cut-joined}
+use Rattle.rows.proofs.Joined.{Long, cut-joined}
 
 -- ---- views
 
@@ -111,7 +111,7 @@ row-set f (suc n) (suc i) r xs h e l =
     )
 
 -- a work memory as long as it is to be
-pub work-rows : (m : Model) (f : ℕ) (work : List Float) → length work ≡ workLen m f → Long m f (rowsOf m f work)
+pub work-rows : (m : Model) (f : ℕ) (work : List Float) → length work ≡ workLen m f → Long (m .lines) f (rowsOf (m .lines) f work)
 unfolding rowsOf workLen
 work-rows m f work e =
     let a = add-mul (m .lines + m .lines) 2 f in
@@ -126,11 +126,11 @@ work-rows m f work e =
 -- what a read of line i leaves there
 pub read-left : (m : Model) (u : UnitState) (i : ℕ) (store work : List Float) → i < m .lines → length work ≡ workLen m (u .settings .frame)
     → length (readRow m u i store) ≡ u .settings .frame
-    → row (u .settings .frame) i (rowsOf m (u .settings .frame) (readWork m u i store work) .reads) ≡ readRow m u i store
+    → row (u .settings .frame) i (rowsOf (m .lines) (u .settings .frame) (readWork m u i store work) .reads) ≡ readRow m u i store
 unfolding readWork
 read-left m u i store work h e l =
     let f : ℕ = u .settings .frame in
-    let r = rowsOf m f work in
+    let r = rowsOf (m .lines) f work in
     let long = work-rows m f work e in
     let s = row-set f (m .lines) i (readRow m u i store) (r .reads) h (long .reads) l in
     let set : Rows = record {
@@ -140,5 +140,5 @@ read-left m u i store work h e l =
       output = r .output;
       rings = r .rings;
     } in
-    let cut = cut-joined m f set (record { input = long .input; reads = s .1; mixed = long .mixed; output = long .output }) in
+    let cut = cut-joined (m .lines) f set (record { input = long .input; reads = s .1; mixed = long .mixed; output = long .output }) in
     ap (λ (x : Rows). row f i (x .reads)) cut ∙ s .0

@@ -31,7 +31,7 @@ use Rattle.unit.specs.Sizes.{lengthsFrom, lengths, filtersLen, jobsLen, Sized}
 use Rattle.unit.specs.Fresh.{blank, noFrame, freshUnit}
 use Rattle.unit.specs.Range.{below, cursorsIn, unmarked, blankFilters, blankOpen, inRange}
 use Rattle.judges.specs.Judges.{judgedFresh}
-use Rattle.stages.specs.Frame.{newFilters, frameFrom, lineRows, outputRow}
+use Rattle.stages.specs.Frame.{newFilters, frameIn, lineRows, outputRow}
 use Rattle.stages.specs.Settle.{moved}
 use Rattle.stages.proofs.Within.{cursors-moved}
 use Rattle.stages.proofs.RowLaws.{length-filtersOf, length-bandEnds}
@@ -88,7 +88,7 @@ lines-some m s (suc n) i k h =
 -- ---- filters keep their number
 
 new-long : (m : Model) (u : UnitState) (p : Play) (store : List Float) → length (newFilters (frameFor m u p store)) ≡ filtersLen m
-unfolding frameFrom lineRows outputRow
+unfolding frameIn lineRows outputRow
 new-long m u p store =
     let r = frameFor m u p store in
     length-append (r .lines .filters) (r .output .filters)
@@ -113,13 +113,13 @@ job-filters m w outputJob e l = over-length (3 * m .lines) (w .unit .filters) 3 
 record Parts (m : Model) (u : UnitState) : Type 0 where
   sizes : (rateOk (u .settings .rate) && frameOk (u .settings .frame)) ≡ true
   lines : cursorsIn (lengths m u) (u .cursors .lines) ≡ true
-  passes : cursorsIn (m .passes) (u .cursors .passes) ≡ true
+  passes : cursorsIn (m .passLengths) (u .cursors .passes) ≡ true
 
 parts : (m : Model) (u : UnitState) → inRange m u ≡ true → Parts m u
 unfolding inRange
 parts m u e =
     let p = split-and (rateOk (u .settings .rate) && frameOk (u .settings .frame)) _ e in
-    let q = split-and (cursorsIn (lengths m u) (u .cursors .lines) && cursorsIn (m .passes) (u .cursors .passes)) _ (p .1) in
+    let q = split-and (cursorsIn (lengths m u) (u .cursors .lines) && cursorsIn (m .passLengths) (u .cursors .passes)) _ (p .1) in
     let r = split-and (cursorsIn (lengths m u) (u .cursors .lines)) _ (q .0) in
     record { sizes = p .0; lines = r .0; passes = r .1 }
 
@@ -150,14 +150,14 @@ module _ (m : Model) (built : Built m) where
       record {
         sizes = ap (λ (x : Settings). rateOk (x .rate) && frameOk (x .frame)) s ∙ p .sizes;
         lines = (λ i. cursorsIn (lengthsFrom m (s i) (m .lines) 0) (c i .lines)) ∙ cursors-moved f (lengths m u) (u .cursors .lines) (p .lines);
-        passes = (λ i. cursorsIn (m .passes) (c i .passes)) ∙ cursors-moved f (m .passes) (u .cursors .passes) (p .passes);
+        passes = (λ i. cursorsIn (m .passLengths) (c i .passes)) ∙ cursors-moved f (m .passLengths) (u .cursors .passes) (p .passes);
       }
 
   same-parts : (u v : UnitState) → Parts m u → v .settings ≡ u .settings → v .cursors ≡ u .cursors → Parts m v
   same-parts u v p s c = record {
     sizes = ap (λ (x : Settings). rateOk (x .rate) && frameOk (x .frame)) s ∙ p .sizes;
     lines = (λ i. cursorsIn (lengthsFrom m (s i) (m .lines) 0) (c i .lines)) ∙ p .lines;
-    passes = (λ i. cursorsIn (m .passes) (c i .passes)) ∙ p .passes;
+    passes = (λ i. cursorsIn (m .passLengths) (c i .passes)) ∙ p .passes;
   }
 
   -- ---- each call
@@ -169,7 +169,7 @@ module _ (m : Model) (built : Built m) where
       record {
         sized = record {
           lines = length-replicate (m .lines) (both 0);
-          passes = length-replicate (length (m .passes)) (both 0);
+          passes = length-replicate (length (m .passLengths)) (both 0);
           filters = length-replicate (filtersLen m) blank;
           marks = length-replicate (jobsLen m) false;
           before = length-replicate (filtersLen m) blank;
@@ -179,7 +179,7 @@ module _ (m : Model) (built : Built m) where
             (record {
               sizes = ok;
               lines = fresh-in (lengths m (freshUnit m rate frame)) (m .lines) (lines .1) (lines .0);
-              passes = fresh-in (m .passes) (length (m .passes)) refl (built .some);
+              passes = fresh-in (m .passLengths) (length (m .passLengths)) refl (built .some);
             })
             refl;
         free = λ e. refl;
@@ -199,7 +199,7 @@ module _ (m : Model) (built : Built m) where
   In w = Reached m (w .unit)
 
   -- a unit with no frame open that has the cursors, the count and the filters given
-  idle-reached : (v : UnitState) → Parts m v → length (v .cursors .lines) ≡ m .lines → length (v .cursors .passes) ≡ length (m .passes)
+  idle-reached : (v : UnitState) → Parts m v → length (v .cursors .lines) ≡ m .lines → length (v .cursors .passes) ≡ length (m .passLengths)
       → length (v .filters) ≡ filtersLen m → v .held ≡ noFrame m → Reached m v
   idle-reached v p l q f e = record {
     sized = record {
@@ -238,7 +238,7 @@ module _ (m : Model) (built : Built m) where
       let free = h .free (whole-lent m u (length (w .store)) (length (w .work)) (length output) p d .free) in
       idle-reached _ (moved-parts u _ (parts m u (h .range)) refl refl)
       (length-moved (u .settings .frame) (lengths m u) (u .cursors .lines) ∙ h .sized .lines)
-      (length-moved (u .settings .frame) (m .passes) (u .cursors .passes) ∙ h .sized .passes)
+      (length-moved (u .settings .frame) (m .passLengths) (u .cursors .passes) ∙ h .sized .passes)
       (new-long m u p (w .store)) free)
       (λ d q. h)
       (λ n. h)
@@ -276,7 +276,7 @@ module _ (m : Model) (built : Built m) where
       (λ d q.
       idle-reached _ (moved-parts u _ (parts m u (h .range)) refl refl)
       (length-moved (u .settings .frame) (lengths m u) (u .cursors .lines) ∙ h .sized .lines)
-      (length-moved (u .settings .frame) (m .passes) (u .cursors .passes) ∙ h .sized .passes)
+      (length-moved (u .settings .frame) (m .passLengths) (u .cursors .passes) ∙ h .sized .passes)
       (h .sized .filters) refl)
       (λ d q. shut-reached u h)
       (λ n. h)

@@ -45,18 +45,18 @@ fresh-together : (m : Model) (w : Memory) (rate frame : ℕ) → Together (afres
 fresh-together m w rate frame = accept-either (λ (v : Memory). Together (v .unit)) (judgedFresh m rate frame (length (w .store))) (λ e. first rate frame) (λ n. first 8000 4)
   where
     first : (rate frame : ℕ) → Together (freshUnit m rate frame)
-    first rate frame = record { lines = equal-fresh (m .lines); passes = equal-fresh (length (m .passes)) }
+    first rate frame = record { lines = equal-fresh (m .lines); passes = equal-fresh (length (m .passLengths)) }
 
 module _ (m : Model) where
   -- a unit with the cursors of u, or with those moved
   same : (u v : UnitState) → v .cursors .lines ≡ u .cursors .lines → v .cursors .passes ≡ u .cursors .passes → Together u → Together v
   same u v l p h = record { lines = rw l (h .lines); passes = rw p (h .passes) }
 
-  moved : (u v : UnitState) → v .cursors .lines ≡ allMoved (u .settings .frame) (lengths m u) (u .cursors .lines) → v .cursors .passes ≡ allMoved (u .settings .frame) (m .passes) (u .cursors .passes)
+  moved : (u v : UnitState) → v .cursors .lines ≡ allMoved (u .settings .frame) (lengths m u) (u .cursors .lines) → v .cursors .passes ≡ allMoved (u .settings .frame) (m .passLengths) (u .cursors .passes)
       → Together u → Together v
   moved u v l p h = record {
     lines = rw l (equal-moved (u .settings .frame) (lengths m u) (u .cursors .lines) (h .lines));
-    passes = rw p (equal-moved (u .settings .frame) (m .passes) (u .cursors .passes) (h .passes));
+    passes = rw p (equal-moved (u .settings .frame) (m .passLengths) (u .cursors .passes) (h .passes));
   }
 
   abbrev Of : Memory → Type 0

@@ -39,7 +39,7 @@ worked m w p rs = requests m (after m w (start p)) rs
 -- lengths is said by the open, which is accepted. Its cursors may be equal or not
 pub record Begins (m : Model) (u : UnitState) : Type 0 where
   -- two allpass stages, each of two rings
-  pub passes : length (m .passes) ≡ 4
+  pub passes : length (m .passLengths) ≡ 4
   -- lists as long as a `State`'s
   pub sized : Sized m u
 

@@ -359,13 +359,13 @@ pub record StagesDetermined : Type 0 where
 pub record RowsDetermined : Type 0 where
   pub line-rows : DeterminedWith1 1 rows-line-rows-kinds.ps rows-line-rows-kinds.r rows-line-rows-reads.Post (λ κs s. s .1 .1 .1 .1 .1 .0 .now)
   pub make-line : DeterminedWith1 1 rows-make-line-kinds.ps rows-make-line-kinds.r rows-make-line-reads.Post (λ κs s. s .1 .1 .1 .1 .0 .now)
-  pub read-line : DeterminedExit 2 rows-read-line-kinds.ps rows-read-line-kinds.r rows-read-line-reads.Post (λ κs s. s .1 .1 .1 .1 .1 .0 .now)
+  pub read-line : DeterminedExit 2 rows-read-line-kinds.ps rows-read-line-kinds.r rows-read-line-reads.Post (λ κs s. s .1 .1 .1 .1 .0 .now)
   pub output-fits : Determined 0 rows-output-fits-kinds.ps rows-output-fits-kinds.r rows-output-fits-reads.Post
   pub work-for : Determined 0 rows-work-for-kinds.ps rows-work-for-kinds.r rows-work-for-reads.Post
   pub three-at : DeterminedWith1 1 rows-three-at-kinds.ps rows-three-at-kinds.r rows-three-at-reads.Post (λ κs s. s .1 .1 .0 .now)
 
 pub record OutputsDetermined : Type 0 where
-  pub output-row : DeterminedWith1 1 outputs-output-row-kinds.ps outputs-output-row-kinds.r outputs-output-row-reads.Post (λ κs s. s .1 .1 .1 .1 .1 .1 .0 .now)
+  pub output-row : DeterminedWith1 1 outputs-output-row-kinds.ps outputs-output-row-kinds.r outputs-output-row-reads.Post (λ κs s. s .1 .1 .1 .1 .1 .0 .now)
   pub make-output : DeterminedWith1 1 outputs-make-output-kinds.ps outputs-make-output-kinds.r outputs-make-output-reads.Post (λ κs s. s .1 .1 .1 .0 .now)
 
 pub record FrameDetermined : Type 0 where

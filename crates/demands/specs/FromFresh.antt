@@ -28,8 +28,8 @@ use Rattle.demands.specs.LineLaw.{account, AllPlay}
 
 -- what a model is asked: two allpass stages, each of two rings, and no ring of length 0. The wall unit is such a model
 pub record Built (m : Model) : Type 0 where
-  pub four : length (m .passes) ≡ 4
-  pub some : allFrom (λ i l. ltb 0 l) 0 (m .passes) ≡ true
+  pub four : length (m .passLengths) ≡ 4
+  pub some : allFrom (λ i l. ltb 0 l) 0 (m .passLengths) ≡ true
 
 -- ---- every unit that calls lead to: its lists have their lengths, it is in range, and while no frame is open what is held for one is blank
 

@@ -48,14 +48,14 @@ noted m i w a (whole p output) =
 noted m i w a (start p) = a
 noted m i w a (job (readJob j)) =
     let f = w .unit .settings .frame in
-    let left = row f i (rowsOf m f (jobWork m w (readJob j)) .reads) in
+    let left = row f i (rowsOf (m .lines) f (jobWork m w (readJob j)) .reads) in
     cond (eqb j i) (accept (answer m w (job (readJob j))) (record { out = a .out; given = a .given; waiting = left }) a) a
 noted m i w a (job mixJob) = a
 noted m i w a (job (lineJob j)) = a
 noted m i w a (job outputJob) = a
 noted m i w a (close output) =
     let f = w .unit .settings .frame in
-    accept (answer m w (close output)) (traded a (a .waiting) (row f i (rowsOf m f (w .work) .mixed))) a
+    accept (answer m w (close output)) (traded a (a .waiting) (row f i (rowsOf (m .lines) f (w .work) .mixed))) a
 noted m i w a abandon = a
 
 -- over a list of requests

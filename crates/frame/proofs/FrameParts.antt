@@ -1,56 +1,28 @@
--- A frame that lies in the work memory: where its parts are, and what they say of it. Assumes nothing.
+-- A frame that lies in the work memory: what its rows say of it, and what is left then. Assumes nothing.
 use mathlib.Core.Path.{_≡_, refl, sym, ap, _∙_}
-use mathlib.Core.Bool.{Bool, _&&_, cond}
+use mathlib.Core.Bool.{Bool, cond}
 use mathlib.Core.List.{List, _++_, append-nil}
 use Prim.Native.Nat.{ℕ, _+_, _*_, _≤_}
 use native.Mathlib.Omega.{arith}
 use lib.Ieee.{Float}
 use lib.ListN.{length, take, drop, replicate, drop-of-length-le}
+use lib.Seq.{length-take-le}
 use Rattle.samples.specs.Binary32.{+0}
-use Rattle.samples.proofs.Lists.{drop-two}
-use lib.Seq.{take-at, drop-at, drop-drop, length-take-le}
-use Rattle.search.specs.Search.{allFinite}
-use Rattle.search.proofs.Finite.{finite-append}
 use Rattle.iir.specs.declared.Filter.{Filter}
-use Rattle.stages.specs.Frame.{Frame, newFilters}
-use Rattle.stages.specs.Settle.{filtersFinite, frameFinite}
+use Rattle.unit.specs.declared.Rings.{Rings}
+use Rattle.stages.specs.Frame.{Frame, newFilters, passesIn, frameIn}
+use Rattle.stages.specs.Settle.{frameFinite, settled}
 use Rattle.stages.proofs.RowLaws.{length-readRows}
 use Rattle.stages.proofs.FrameLaws.{put-beside, out-long}
-use Rattle.unit.specs.declared.Rings.{Rings}
-use Rattle.unit.specs.Sizes.{total}
-use Rattle.frame.specs.Workers.{framed, frameBy, FrameFits, SettleFits, finiteIn, putIn, outIn, judgedStore, judgedOut}
+use Rattle.rows.specs.Rows.{Rows, rowsOf, joinedRows}
+use Rattle.rows.proofs.Joined.{Long, cut-joined}
+use Rattle.frame.specs.Parts.{rowsFinite}
+use Rattle.frame.specs.Steps.{Left, steppedOn, leftBy, rowsIn, ranWithRoom, finishedWithRoom}
+use Rattle.frame.specs.Workers.{FrameFits, SettleFits}
 use Rattle.frame.proofs.LineLaws.{lines-held}
 
-module _ (f m : ℕ) (input : List Float) (r : Frame) (w : List Float) (e : w ≡ framed input r)
-    (li : length input ≡ f) (lr : length (r .reads) ≡ m) (lp : length (r .lines .put) ≡ m) (lo : length (r .output .out) ≡ f) where
-  pub from-put : drop (f + m) w ≡ r .lines .put ++ (r .output .out ++ r .output .rings)
-  unfolding framed
-  from-put =
-      ap (drop (f + m)) e ∙ drop-two input (r .reads) (r .lines .put ++ (r .output .out ++ r .output .rings)) (f + m) (omega (arith, li, lr))
-
-  pub the-put : take m (drop (f + m) w) ≡ r .lines .put
-  the-put = ap (take m) from-put ∙ take-at (r .lines .put) (r .output .out ++ r .output .rings) m lp
-
-  from-out : drop (f + m + m) w ≡ r .output .out ++ r .output .rings
-  from-out = sym (drop-drop m (f + m) w) ∙ ap (drop m) from-put ∙ drop-at (r .lines .put) (r .output .out ++ r .output .rings) m lp
-
-  pub the-out : take f (drop (f + m + m) w) ≡ r .output .out
-  the-out = ap (take f) from-out ∙ take-at (r .output .out) (r .output .rings) f lo
-
-  pub the-rings : drop (f + m + m + f) w ≡ r .output .rings
-  the-rings = sym (drop-drop f (f + m + m) w) ∙ ap (drop f) from-out ∙ drop-at (r .output .out) (r .output .rings) f lo
-
-  -- the filters of a unit that has no others are the frame's
-  pub all-judged : (gs : List Filter) → gs ≡ newFilters r → (filtersFinite gs && allFinite (drop (f + m) w)) ≡ frameFinite r
-  unfolding frameFinite
-  all-judged gs q =
-      (λ i. filtersFinite (q i) && allFinite (from-put i))
-      ∙ ap (λ (b : Bool). filtersFinite (newFilters r) && b)
-      (finite-append (r .lines .put) (r .output .out ++ r .output .rings)
-      ∙ ap (λ (b : Bool). allFinite (r .lines .put) && b) (finite-append (r .output .out) (r .output .rings)))
-
 -- no filter is left over
-pub none-over : (gs fs : List Filter) (k : ℕ) → length fs ≤ k → gs ++ drop k fs ≡ gs
+none-over : (gs fs : List Filter) (k : ℕ) → length fs ≤ k → gs ++ drop k fs ≡ gs
 none-over gs fs k h = rw (drop-of-length-le fs h) (append-nil gs)
 
 -- what is asked of the memory lent to settle a frame, from what its rows ask
@@ -60,42 +32,48 @@ settle-fits n f v store work w output h e o =
     record {
       lines = record { few = h .few; some = h .frame; small = h .small; rows-are = refl; rings = h .rings };
       rows = omega (arith, e, h .work-is);
-      rings = omega (arith, e, h .work-is, h .store-is);
+      rings = omega (arith, e, h .rest, h .work-is, h .store-is);
       out = o;
     }
 
--- what a frame's rows in the work memory w, and its filters gs, give
-pub record Ran (n f : ℕ) (v : Rings) (r : Frame) (gs : List Filter) (store w : List Float) : Type 0 where
-  pub filters : gs ≡ newFilters r
-  pub judged : finiteIn n f gs w ≡ frameFinite r
-  pub settled : (ok : Bool) → ok ≡ frameFinite r
-      → cond ok (putIn n f v w store) store ≡ judgedStore n f v r store
-  pub given : (ok : Bool) (output : List Float) → ok ≡ frameFinite r → cond ok (outIn n f w) output ≡ judgedOut r output
+-- the rows of a frame are judged as the frame is
+rows-judged : (input : List Float) (x : Frame) → rowsFinite (newFilters x) (rowsIn input x) ≡ frameFinite x
+unfolding rowsFinite frameFinite
+rows-judged input x = refl
 
-pub frame-run : (n f : ℕ) (k d : Float) (tail : Bool) (v : Rings) (fs gs : List Filter) (store work w : List Float)
-    → FrameFits n f v (length store) (length work) → length fs ≤ 3 * n + 3
-    → let r = frameBy n f k d tail v fs (take f work) store in
-    gs ≡ newFilters r ++ drop (3 * n + 3) fs → w ≡ framed (take f work) r → Ran n f v r gs store w
-unfolding judgedStore judgedOut
-frame-run n f k d tail v fs gs store work w h all eg ew =
-    let m = n * f in
-    let input = take f work in
-    let r = frameBy n f k d tail v fs input store in
-    let li : length input ≡ f = length-take-le f work (omega (arith, h .work-is)) in
-    let lr : length (r .reads) ≡ m = length-readRows f (v .lengths) (v .lines) n 0 store (lines-held f (v .lengths) (v .lines) (length store) n (h .rings)) in
-    let lp : length (r .lines .put) ≡ m = put-beside n f k fs input (r .reads) tail li in
-    let lo : length (r .output .out) ≡ f = out-long n f d (v .sizes) (v .passes) fs (drop (total (take n (v .lengths))) store) (r .reads) (h .fours) in
-    let new : gs ≡ newFilters r = eg ∙ none-over (newFilters r) fs (3 * n + 3) all in
-    record {
-      filters = new;
-      judged = all-judged f m input r w ew li lr lp lo gs new;
-      settled = λ ok e. rw (e, the-put f m input r w ew li lr lp lo, the-rings f m input r w ew li lr lp lo) refl;
-      given = λ ok output e. rw (e, the-out f m input r w ew li lr lp lo) refl;
-    }
+-- a frame whose rows lie in a work memory w, as long as the one that it began with, and whose filters are gs: it ends as a whole one
+module _ (n f : ℕ) (k d : Float) (tail : Bool) (v : Rings) (fs gs : List Filter) (store work w : List Float)
+    (h : FrameFits n f v (length store) (length work)) (all : length fs ≤ 3 * n + 3)
+    (eg : gs ≡ newFilters (frameIn n f k d tail v fs (take f work) store) ++ drop (3 * n + 3) fs)
+    (ew : w ≡ joinedRows (rowsIn (take f work) (frameIn n f k d tail v fs (take f work) store))) (el : length w ≡ length work) where
+  abbrev x : Frame
+  x = frameIn n f k d tail v fs (take f work) store
 
--- a memory cleared after others have had it is as long as it was
-pub cleared-as-long : (w : List Float) (k l : ℕ) → w ≡ replicate k +0 → k ≡ l → w ≡ replicate l +0
-cleared-as-long w k l e h = e ∙ ap (λ (n : ℕ). replicate n +0) h
+  its-rows : rowsOf n f w ≡ rowsIn (take f work) x
+  unfolding frameIn
+  its-rows =
+      let li : length (take f work) ≡ f = length-take-le f work (omega (arith, h .work-is)) in
+      ap (rowsOf n f) ew
+      ∙ cut-joined n f (rowsIn (take f work) x)
+      (record {
+        input = li;
+        reads = length-readRows f (v .lines .lengths) (v .lines .cursors) n 0 store (lines-held f (v .lines .lengths) (v .lines .cursors) (length store) n (h .rings));
+        mixed = put-beside n f k fs (take f work) (x .reads) tail li;
+        output = out-long n f d (v .passes .lengths) (v .passes .cursors) fs (passesIn (v .lines .lengths) store) (x .reads) (h .fours);
+      })
 
-pub cond-of : {A : Type 0} (b b′ : Bool) (x y : A) → b ≡ b′ → cond b x y ≡ cond b′ x y
-cond-of b b′ x y e = ap (λ (t : Bool). cond t x y) e
+  its-filters : gs ≡ newFilters x
+  its-filters = eg ∙ none-over (newFilters x) fs (3 * n + 3) all
+
+  all-judged : rowsFinite gs (rowsOf n f w) ≡ frameFinite x
+  all-judged = (λ i. rowsFinite (its-filters i) (its-rows i)) ∙ rows-judged (take f work) x
+
+  pub ends-whole : (output : List Float) → finishedWithRoom n f v gs store w output ≡ ranWithRoom n f k d tail v fs store work output
+  unfolding leftBy
+  ends-whole output =
+      λ i. record {
+        stepped = steppedOn f v (all-judged i) (its-filters i);
+        store = cond (all-judged i) (settled n f v (its-rows i .mixed) (its-rows i .rings) store) store;
+        work = replicate (el i) +0;
+        output = cond (all-judged i) (its-rows i .output) output;
+      }

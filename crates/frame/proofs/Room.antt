@@ -1,12 +1,11 @@
 -- From room for a frame to what its steps ask of the memory lent. Assumes nothing.
-use mathlib.Core.Path.{_≡_, refl, sym, ap, _∙_}
-use mathlib.Core.Bool.{Bool, true, _&&_}
+use mathlib.Core.Path.{_≡_, ap}
+use mathlib.Core.Bool.{true, _&&_}
 use mathlib.Core.List.{List}
 use Prim.Native.Nat.{ℕ, zero, suc, _+_, _*_, _≤_, _<_}
 use native.Mathlib.Nat.{zero-add}
 use native.Mathlib.Omega.{arith}
 use lib.Dec.{eqb}
-use lib.Ieee.{Float}
 use lib.ListN.{length, getD, take, drop}
 use lib.Seq.{take-all}
 use borrow.Author.Tests.{eqb-true}
@@ -14,7 +13,6 @@ use Rattle.samples.specs.Sizes.{frameOk}
 use Rattle.samples.proofs.Laws.{split-and, frame-of}
 use Rattle.delay.specs.declared.Cursors.{Cursors}
 use Rattle.delay.specs.Calls.{both}
-use Rattle.iir.specs.declared.Filter.{Filter}
 use Rattle.unit.specs.declared.Rings.{Rings}
 use Rattle.unit.specs.Model.{wall}
 use Rattle.unit.specs.Sizes.{total, storeLen, workLen}
@@ -22,9 +20,8 @@ use Rattle.unit.specs.Range.{cursorsIn}
 use Rattle.unit.specs.Room.{ringsHold, passesAre, roomOk}
 use Rattle.unit.proofs.Ranges.{Below, cursors-at, holds-at, passes-same}
 use Rattle.rows.proofs.RowsOf.{work-parts}
-use Rattle.stages.specs.Frame.{Frame, frameFrom, frameIn}
 use Rattle.stages.proofs.RowLaws.{total-more}
-use Rattle.frame.specs.Workers.{RingsFit, Within, WholeFits, frameBy}
+use Rattle.frame.specs.Workers.{RingsFit, Within, WholeFits}
 
 -- rings that hold a frame, with their cursors within them
 module _ (f : ℕ) (ls : List ℕ) (cs : List Cursors) (some : 0 < f) (hold : ringsHold f ls ≡ true) (all : cursorsIn ls cs ≡ true) where
@@ -46,9 +43,9 @@ module _ (f : ℕ) (ls : List ℕ) (cs : List Cursors) (some : 0 < f) (hold : ri
       let k = total-more n i ls in
       (l .0, l .1, b .read, b .write, omega (arith, k, h), rings-of n (i + 1) (a + getD ls i 0) len (omega arith) (omega (arith, k, h)))
 
-passes-within : (cs : List Cursors) → cursorsIn (wall .passes) cs ≡ true → Within 4 0 (wall .passes) cs
+passes-within : (cs : List Cursors) → cursorsIn (wall .passLengths) cs ≡ true → Within 4 0 (wall .passLengths) cs
 passes-within cs e =
-    let b : (i : ℕ) → 0 < getD (wall .passes) i 0 → Below (getD (wall .passes) i 0) (getD cs i (both 0)) = cursors-at (wall .passes) cs e in
+    let b : (i : ℕ) → 0 < getD (wall .passLengths) i 0 → Below (getD (wall .passLengths) i 0) (getD cs i (both 0)) = cursors-at (wall .passLengths) cs e in
     let b0 = b 0 (omega arith) in
     let b1 = b 1 (omega arith) in
     let b2 = b 2 (omega arith) in
@@ -57,7 +54,7 @@ passes-within cs e =
 
 -- ---- the sizes by their parts
 
-pub passes-small : total (wall .passes) ≤ 65536
+pub passes-small : total (wall .passLengths) ≤ 65536
 unfolding total
 passes-small = omega arith
 
@@ -65,26 +62,27 @@ passes-small = omega arith
 pub every-line : (ls : List ℕ) → length ls ≡ 16 → take 16 ls ≡ ls
 every-line ls e = take-all 16 ls (omega (arith, e))
 
-store-parts : (ls : List ℕ) (store : ℕ) → length ls ≡ 16 → store ≡ storeLen wall ls → store ≡ total (take 16 ls) + total (wall .passes)
+store-parts : (ls : List ℕ) (store : ℕ) → store ≡ storeLen wall ls → store ≡ total ls + total (wall .passLengths)
 unfolding storeLen
-store-parts ls store long e = rw (every-line ls long) e
+store-parts ls store e = e
 
-pub room-fits : (f : ℕ) (r : Rings) (store work output : ℕ) → length (r .lengths) ≡ 16 → length (r .sizes) ≡ 4
+pub room-fits : (f : ℕ) (r : Rings) (store work output : ℕ) → length (r .lines .lengths) ≡ 16 → length (r .passes .lengths) ≡ 4
     → roomOk wall f r store work output ≡ true → WholeFits wall f r store work output
 unfolding roomOk
 room-fits f r store work output long four e =
-    let ls = r .lengths in
-    let cs = r .lines in
+    let ls = r .lines .lengths in
+    let cs = r .lines .cursors in
     let lent = eqb store (storeLen wall ls) && (eqb work (workLen wall f) && eqb output f) in
     let p = split-and (frameOk f) _ e in
-    let o = split-and (ringsHold f ls && passesAre wall (r .sizes)) _ (p .1) in
-    let h = split-and (ringsHold f ls) (passesAre wall (r .sizes)) (o .0) in
-    let same = passes-same (r .sizes) four (h .1) in
-    let q = split-and (cursorsIn ls cs && cursorsIn (r .sizes) (r .passes)) lent (o .1) in
-    let c = split-and (cursorsIn ls cs) (cursorsIn (r .sizes) (r .passes)) (q .0) in
+    let o = split-and (ringsHold f ls && passesAre wall (r .passes .lengths)) _ (p .1) in
+    let h = split-and (ringsHold f ls) (passesAre wall (r .passes .lengths)) (o .0) in
+    let same = passes-same (r .passes .lengths) four (h .1) in
+    let q = split-and (cursorsIn ls cs && cursorsIn (r .passes .lengths) (r .passes .cursors)) lent (o .1) in
+    let c = split-and (cursorsIn ls cs) (cursorsIn (r .passes .lengths) (r .passes .cursors)) (q .0) in
     let l = split-and (eqb store (storeLen wall ls)) _ (q .1) in
     let g = split-and (eqb work (workLen wall f)) (eqb output f) (l .1) in
-    let parts = store-parts ls store long (eqb-true _ _ (l .0)) in
+    let parts = store-parts ls store (eqb-true _ _ (l .0)) in
+    let rest : total (take 16 ls) ≡ total ls = ap total (every-line ls long) in
     let d = frame-of f (p .0) in
     let some : 0 < f = omega (arith, d .lo) in
     record {
@@ -95,22 +93,17 @@ room-fits f r store work output long four e =
         frame = some;
         small = omega (arith, d .hi);
         fours = d .fours;
-        rings = rings-of f ls cs some (h .0) (c .0) 16 0 0 store (omega (arith, long)) (omega (arith, parts));
+        rings = rings-of f ls cs some (h .0) (c .0) 16 0 0 store (omega (arith, long)) (omega (arith, rest, parts));
         passes = rw same passes-small;
         four = four;
+        rest = rest;
         store-is = rw same parts;
         work-is = rw same (work-parts f work (eqb-true _ _ (g .0)));
       };
       within = record {
         lines = lines-within f ls cs some (h .0) (c .0) 16 0 (omega (arith, long));
-        passes = rw same (passes-within (r .passes) (rw same at (c .1)));
+        passes = rw same (passes-within (r .passes .cursors) (rw same at (c .1)));
       };
       short = d .hi;
       out = eqb-true _ _ (g .1);
     }
-
--- the frame of sixteen lines, the wall unit's factor and its divisor is the wall unit's
-pub frame-wall : (f : ℕ) (tail : Bool) (r : Rings) (fs : List Filter) (input store : List Float) → length (r .lengths) ≡ 16
-    → frameBy 16 f (wall .factor) (wall .divisor) tail r fs input store ≡ frameIn wall f tail r fs input store
-unfolding frameFrom
-frame-wall f tail r fs input store e = rw (every-line (r .lengths) e) refl

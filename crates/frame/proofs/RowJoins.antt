@@ -16,17 +16,19 @@ use Rattle.delay.specs.declared.Cursors.{Cursors}
 use Rattle.unit.specs.declared.Rings.{Rings}
 use Rattle.unit.specs.Sizes.{total}
 use Rattle.iir.specs.declared.Filter.{Filter}
-use Rattle.stages.specs.Lines.{noFilter, readRows}
-use Rattle.stages.specs.Frame.{lineRows, outputRow, newFilters}
+use Rattle.stages.specs.Lines.{noFilter}
+use Rattle.stages.specs.Frame.{lineRows, outputRow, newFilters, readsOf, frameIn}
 use Rattle.stages.specs.Steps.{copied}
 use Rattle.stages.proofs.RowLaws.{copied-all}
 use Rattle.stages.proofs.FrameLaws.{put-beside}
+use Rattle.rows.specs.Rows.{outputPlace, joinedRows}
 use Rattle.rows.specs.Fits.{outputFits}
 use Rattle.rows.specs.Steps.{linesEnds, linesLaid}
 use Rattle.rows.proofs.RowFits.{lines-yes, output-yes}
 use Rattle.rows.proofs.RowJoins.{filters-long}
 use Rattle.outputs.specs.Steps.{outputFrom, outputMade, outputAfter}
-use Rattle.frame.specs.Workers.{FrameFits, frameBy, framed}
+use Rattle.frame.specs.Steps.{rowsIn}
+use Rattle.frame.specs.Workers.{FrameFits}
 
 -- ---- step 5 where the lines' filters are those after step 4: it looks at the others alone
 
@@ -75,7 +77,7 @@ module _ (n : ℕ) (lines fs : List Filter) (l : length lines ≡ 3 * n) where
 -- ---- the rows read, over the first of those after the input, and then steps 3 and 4
 
 pub lines-join : (n f : ℕ) (k : Float) (tail : Bool) (fs gs : List Filter) (rows reads x w : List Float) → 0 < n → n ≤ 16 → f ≤ 65536
-    → length rows ≡ f + n * f + n * f → length x ≡ length (take (f + n * f - f) (drop f rows)) → x ≡ reads
+    → length rows ≡ outputPlace n f → length x ≡ length (take (f + n * f - f) (drop f rows)) → x ≡ reads
     → let w₁ = putMid f (f + n * f - f) rows x in
     (gs ≡ linesEnds n f k tail fs w₁) × (w ≡ linesLaid n f k tail fs w₁)
     → let r = lineRows n f k tail fs (take f rows) reads in
@@ -96,12 +98,12 @@ lines-join n f k tail fs gs rows reads x w some few small l kept ex e =
 
 -- ---- step 5 on rows that fit
 
-output-done : (n f : ℕ) (d : Float) (ps : List ℕ) (qs : List Cursors) (gs hs : List Filter) (p x : List Float) → outputFits n f ps (length p) ≡ true
-    → let s = outputFrom n f d ps qs gs p in
-    (hs ≡ outputAfter n f d ps qs gs p) × (x ≡ outputMade n f d ps qs gs p)
+output-done : (n f : ℕ) (d : Float) (v : Rings) (gs hs : List Filter) (p x : List Float) → outputFits n f (v .passes .lengths) (length p) ≡ true
+    → let s = outputFrom n f d (v .passes .lengths) (v .passes .cursors) gs p in
+    (hs ≡ outputAfter n f d v gs p) × (x ≡ outputMade n f d v gs p)
     → (hs ≡ over (3 * n) (s .filters) gs) × (x ≡ take (n * f + n * f) p ++ (s .out ++ s .rings))
 unfolding outputAfter outputMade
-output-done n f d ps qs gs hs p x e q = rw e at q
+output-done n f d v gs hs p x e q = rw e at q
 
 -- ---- a whole frame
 
@@ -118,30 +120,31 @@ copy-join t b store work x h l ex =
 
 pub frame-join : (n f : ℕ) (k d : Float) (tail : Bool) (v : Rings) (fs gs hs : List Filter) (store work x x₁ x₂ : List Float)
     → FrameFits n f v (length store) (length work)
-    → let at = f + n * f + n * f in
+    → let at = outputPlace n f in
     let b = at + f in
     let a = length store - (length work - b) in
     let w = putMid b (length work - b) work x in
     let q = take (at - 0) (drop 0 w) in
     let w₁ = putMid 0 (at - 0) w x₁ in
     let p = take (length w₁ - f) (drop f w₁) in
-    let r = frameBy n f k d tail v fs (take f work) store in
-    let lines = lineRows n f k tail fs (take f q) (r .reads) in
+    let r = frameIn n f k d tail v fs (take f work) store in
+    let reads = readsOf n f v store in
+    let lines = lineRows n f k tail fs (take f q) reads in
     x ≡ copied (take (length store - a) (drop a store)) (take (length work - b) (drop b work))
-    → length x₁ ≡ length q → (gs ≡ lines .filters ++ drop (3 * n) fs) × (x₁ ≡ take f q ++ (r .reads ++ lines .put))
-    → (hs ≡ outputAfter n f d (v .sizes) (v .passes) gs p) × (x₂ ≡ outputMade n f d (v .sizes) (v .passes) gs p)
-    → (hs ≡ newFilters r ++ drop (3 * n + 3) fs) × (putMid f (length w₁ - f) w₁ x₂ ≡ framed (take f work) r)
-unfolding framed
+    → length x₁ ≡ length q → (gs ≡ lines .filters ++ drop (3 * n) fs) × (x₁ ≡ take f q ++ (reads ++ lines .put))
+    → (hs ≡ outputAfter n f d v gs p) × (x₂ ≡ outputMade n f d v gs p)
+    → (hs ≡ newFilters r ++ drop (3 * n + 3) fs) × (putMid f (length w₁ - f) w₁ x₂ ≡ joinedRows (rowsIn (take f work) r))
+unfolding frameIn joinedRows
 frame-join n f k d tail v fs gs hs store work x x₁ x₂ fits e₀ kept e₁ e₂ =
-    let ls = v .lengths in
-    let ps = v .sizes in
-    let qs = v .passes in
-    let at = f + n * f + n * f in
-    let t = total (take n ls) in
+    let ls = v .lines .lengths in
+    let ps = v .passes .lengths in
+    let qs = v .passes .cursors in
+    let at = outputPlace n f in
+    let t = total ls in
     let input = take f work in
     let old = take f (drop at work) in
     let rings = drop t store in
-    let reads = readRows f n 0 ls (v .lines) store in
+    let reads = readsOf n f v store in
     let lines = lineRows n f k tail fs input reads in
     let lw = fits .work-is in
     let li : length input ≡ f = length-take-le f work (omega arith) in
@@ -158,4 +161,4 @@ frame-join n f k d tail v fs gs hs store work x x₁ x₂ fits e₀ kept e₁ e�
     let lent : length (take (length w₁ - f) (drop f w₁)) ≡ n * f + n * f + f + total ps = simp (length-take, length-drop) (omega (arith, lw₁, fits .work-is)) in
     let fits-on = output-yes n f ps _ (fits .some) (fits .few) (fits .small) (fits .fours) lent in
     tone-join n (lines .filters) fs (filters-long n f k tail fs input reads) f d ps qs gs hs _ x₂ input reads (lines .put) old rings li lr lp lo
-    (q .1 x₁ ∙ rw x₁-is (simp append-assoc)) (e₁ .0 ∙ rw first refl) (output-done n f d ps qs gs hs _ x₂ fits-on e₂)
+    (q .1 x₁ ∙ rw x₁-is (simp append-assoc)) (e₁ .0 ∙ rw first refl) (output-done n f d v gs hs _ x₂ fits-on e₂)

@@ -10,7 +10,7 @@ use Rattle.unit.specs.declared.Rings.{Rings}
 use Rattle.unit.specs.Model.{Model}
 use Rattle.unit.specs.Room.{roomOk}
 use Rattle.stages.specs.Frame.{Frame, newFilters, frameIn}
-use Rattle.stages.specs.Settle.{frameFinite, putRows, allMoved}
+use Rattle.stages.specs.Settle.{frameFinite, settled, allMoved}
 use Rattle.rows.specs.Rows.{Rows, rowsOf}
 use Rattle.frame.specs.Parts.{rowsFinite}
 use Rattle.frame.specs.declared.Stepped.{Stepped}
@@ -24,14 +24,14 @@ pub record Left : Type 0 where
 
 -- what a frame of f samples on the rings r came to: whether all of it is `ok`, its filters, and the cursors moved on
 abbrev pub steppedOn : ℕ → Rings → Bool → List Filter → Stepped
-steppedOn f r ok gs = record { ok = ok; filters = gs; lines = allMoved f (r .lengths) (r .lines); passes = allMoved f (r .sizes) (r .passes) }
+steppedOn f r ok gs = record { ok = ok; filters = gs; lines = allMoved f (r .lines .lengths) (r .lines .cursors); passes = allMoved f (r .passes .lengths) (r .passes .cursors) }
 
--- a frame whose filters and rows are these is kept and handed out if all of it is `ok`. The cursors move on and the work memory is cleared
+-- a frame of n lines whose filters and rows are these is kept and handed out if all of it is `ok`. The cursors move on and the work memory is cleared
 -- whether it is or not
-unfoldable pub leftBy : Model → ℕ → Rings → Bool → List Filter → Rows → List Float → List Float → List Float → Left
-leftBy m f r ok gs rows store work output = record {
+unfoldable pub leftBy : ℕ → ℕ → Rings → Bool → List Filter → Rows → List Float → List Float → List Float → Left
+leftBy n f r ok gs rows store work output = record {
   stepped = steppedOn f r ok gs;
-  store = cond ok (putRows f (m .lines) 0 (r .lengths) (r .lines) (rows .mixed) (rows .rings) store) store;
+  store = cond ok (settled n f r (rows .mixed) (rows .rings) store) store;
   work = replicate (length work) +0;
   output = cond ok (rows .output) output;
 }
@@ -39,32 +39,32 @@ leftBy m f r ok gs rows store work output = record {
 -- R3.37: where there is no room for it nothing is done
 abbrev pub untouched : Rings → List Filter → List Float → List Float → List Float → Left
 untouched r fs store work output =
-    record { stepped = record { ok = false; filters = fs; lines = r .lines; passes = r .passes }; store = store; work = work; output = output }
+    record { stepped = record { ok = false; filters = fs; lines = r .lines .cursors; passes = r .passes .cursors }; store = store; work = work; output = output }
 
 -- the rows of a frame
 abbrev pub rowsIn : List Float → Frame → Rows
 rowsIn input r = record { input = input; reads = r .reads; mixed = r .lines .put; output = r .output .out; rings = r .output .rings }
 
 -- R4.5 to R4.20: a whole frame, from the filters fs and the input at the front of the work memory
-abbrev pub ranWithRoom : Model → ℕ → Rings → Bool → List Filter → List Float → List Float → List Float → Left
-ranWithRoom m f r tail fs store work output =
-    let x = frameIn m f tail r fs (take f work) store in
-    leftBy m f r (frameFinite x) (newFilters x) (rowsIn (take f work) x) store work output
+abbrev pub ranWithRoom : ℕ → ℕ → Float → Float → Bool → Rings → List Filter → List Float → List Float → List Float → Left
+ranWithRoom n f k d tail r fs store work output =
+    let x = frameIn n f k d tail r fs (take f work) store in
+    leftBy n f r (frameFinite x) (newFilters x) (rowsIn (take f work) x) store work output
 
 abbrev pub ran : Model → ℕ → Rings → Bool → List Filter → List Float → List Float → List Float → Left
 ran m f r tail fs store work output =
     cond (roomOk m f r (length store) (length work) (length output))
-    (ranWithRoom m f r tail fs store work output)
+    (ranWithRoom (m .lines) f (m .factor) (m .divisor) tail r fs store work output)
     (untouched r fs store work output)
 
 -- R5.21 to R5.23: the end of a frame whose rows lie in the work memory, and whose filters are fs
-abbrev pub finishedWithRoom : Model → ℕ → Rings → List Filter → List Float → List Float → List Float → Left
-finishedWithRoom m f r fs store work output =
-    let rows = rowsOf m f work in
-    leftBy m f r (rowsFinite fs rows) fs rows store work output
+abbrev pub finishedWithRoom : ℕ → ℕ → Rings → List Filter → List Float → List Float → List Float → Left
+finishedWithRoom n f r fs store work output =
+    let rows = rowsOf n f work in
+    leftBy n f r (rowsFinite fs rows) fs rows store work output
 
 abbrev pub finished : Model → ℕ → Rings → List Filter → List Float → List Float → List Float → Left
 finished m f r fs store work output =
     cond (roomOk m f r (length store) (length work) (length output))
-    (finishedWithRoom m f r fs store work output)
+    (finishedWithRoom (m .lines) f r fs store work output)
     (untouched r fs store work output)

@@ -54,8 +54,8 @@ pub fn run_frame(
     ensures { λ _. ⌜ now (work .exit) ≡ ran wall f rings tail fs (now (store .entry)) (now (work .entry)) (now (output .entry)) .work ⌝ }
     ensures { λ _. ⌜ now (output .exit) ≡ ran wall f rings tail fs (now (store .entry)) (now (work .entry)) (now (output .entry)) .output ⌝ }
 {
-    let lines = rings.lines;
-    let passes = rings.passes;
+    let lines = rings.lines.cursors;
+    let passes = rings.passes.cursors;
     if !room_ok(f, rings, store.len(), work.len(), output.len()) {
         return Stepped {
             ok: false,
@@ -78,10 +78,10 @@ fn wall_frame(
     output: &mut [f32],
 ) -> Stepped
     requires { ⌜ WholeFits wall f rings (length (now store)) (length (now work)) (length (now output)) ⌝ }
-    ensures { λ r. ⌜ r ≡ ranWithRoom wall f rings tail fs (now (store .entry)) (now (work .entry)) (now (output .entry)) .stepped ⌝ }
-    ensures { λ _. ⌜ now (store .exit) ≡ ranWithRoom wall f rings tail fs (now (store .entry)) (now (work .entry)) (now (output .entry)) .store ⌝ }
-    ensures { λ _. ⌜ now (work .exit) ≡ ranWithRoom wall f rings tail fs (now (store .entry)) (now (work .entry)) (now (output .entry)) .work ⌝ }
-    ensures { λ _. ⌜ now (output .exit) ≡ ranWithRoom wall f rings tail fs (now (store .entry)) (now (work .entry)) (now (output .entry)) .output ⌝ }
+    ensures { λ r. ⌜ r ≡ ranWithRoom (wall .lines) f (wall .factor) (wall .divisor) tail rings fs (now (store .entry)) (now (work .entry)) (now (output .entry)) .stepped ⌝ }
+    ensures { λ _. ⌜ now (store .exit) ≡ ranWithRoom (wall .lines) f (wall .factor) (wall .divisor) tail rings fs (now (store .entry)) (now (work .entry)) (now (output .entry)) .store ⌝ }
+    ensures { λ _. ⌜ now (work .exit) ≡ ranWithRoom (wall .lines) f (wall .factor) (wall .divisor) tail rings fs (now (store .entry)) (now (work .entry)) (now (output .entry)) .work ⌝ }
+    ensures { λ _. ⌜ now (output .exit) ≡ ranWithRoom (wall .lines) f (wall .factor) (wall .divisor) tail rings fs (now (store .entry)) (now (work .entry)) (now (output .entry)) .output ⌝ }
 {
     let r = judge_frame(
         LINES,
@@ -104,10 +104,10 @@ fn moved_on(ok: bool, f: usize, rings: Rings, fs: [Filter; FILTERS]) -> Stepped
     requires { ⌜ (f ≤ longestFrame) × AllWithin wall rings ⌝ }
     ensures { λ r. ⌜ r ≡ steppedOn f rings ok fs ⌝ }
 {
-    let ls = rings.lengths;
-    let cs = rings.lines;
-    let ps = rings.sizes;
-    let qs = rings.passes;
+    let ls = rings.lines.lengths;
+    let cs = rings.lines.cursors;
+    let ps = rings.passes.lengths;
+    let qs = rings.passes.cursors;
     let lines = move_lines(LINES, f, ls, cs);
     let passes = move_passes(f, ps, qs);
     Stepped {
@@ -134,8 +134,8 @@ pub fn close_frame(
     ensures { λ _. ⌜ now (work .exit) ≡ finished wall f rings fs (now (store .entry)) (now (work .entry)) (now (output .entry)) .work ⌝ }
     ensures { λ _. ⌜ now (output .exit) ≡ finished wall f rings fs (now (store .entry)) (now (work .entry)) (now (output .entry)) .output ⌝ }
 {
-    let lines = rings.lines;
-    let passes = rings.passes;
+    let lines = rings.lines.cursors;
+    let passes = rings.passes.cursors;
     if !room_ok(f, rings, store.len(), work.len(), output.len()) {
         return Stepped {
             ok: false,
@@ -157,10 +157,10 @@ fn wall_close(
     output: &mut [f32],
 ) -> Stepped
     requires { ⌜ WholeFits wall f rings (length (now store)) (length (now work)) (length (now output)) ⌝ }
-    ensures { λ r. ⌜ r ≡ finishedWithRoom wall f rings fs (now (store .entry)) (now (work .entry)) (now (output .entry)) .stepped ⌝ }
-    ensures { λ _. ⌜ now (store .exit) ≡ finishedWithRoom wall f rings fs (now (store .entry)) (now (work .entry)) (now (output .entry)) .store ⌝ }
-    ensures { λ _. ⌜ now (work .exit) ≡ finishedWithRoom wall f rings fs (now (store .entry)) (now (work .entry)) (now (output .entry)) .work ⌝ }
-    ensures { λ _. ⌜ now (output .exit) ≡ finishedWithRoom wall f rings fs (now (store .entry)) (now (work .entry)) (now (output .entry)) .output ⌝ }
+    ensures { λ r. ⌜ r ≡ finishedWithRoom (wall .lines) f rings fs (now (store .entry)) (now (work .entry)) (now (output .entry)) .stepped ⌝ }
+    ensures { λ _. ⌜ now (store .exit) ≡ finishedWithRoom (wall .lines) f rings fs (now (store .entry)) (now (work .entry)) (now (output .entry)) .store ⌝ }
+    ensures { λ _. ⌜ now (work .exit) ≡ finishedWithRoom (wall .lines) f rings fs (now (store .entry)) (now (work .entry)) (now (output .entry)) .work ⌝ }
+    ensures { λ _. ⌜ now (output .exit) ≡ finishedWithRoom (wall .lines) f rings fs (now (store .entry)) (now (work .entry)) (now (output .entry)) .output ⌝ }
 {
     let ok = finish_frame(LINES, f, rings, fs, store, work, output);
     moved_on(ok, f, rings, fs)

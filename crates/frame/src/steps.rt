@@ -10,19 +10,20 @@ use unit::Rings;
 ghost use mathlib.Core.Path.{_≡_};
 ghost use mathlib.Core.List.{_++_};
 ghost use Prim.Native.Nat.{_+_, _-_, _<_, _≤_};
-ghost use lib.ListN.{length, take};
+ghost use lib.ListN.{length, take, drop};
 ghost use Rattle.delay.specs.Calls.{longestRing};
 ghost use Rattle.unit.specs.Model.{wall};
-ghost use Rattle.stages.specs.Settle.{movedBy, allMoved};
-ghost use Rattle.frame.specs.Workers.{LinesFit, Within, linesLen, readsOf, putInto, afterLines};
+ghost use Rattle.stages.specs.Frame.{readsOf};
+ghost use Rattle.stages.specs.Settle.{settled, movedBy, allMoved};
+ghost use Rattle.frame.specs.Workers.{LinesFit, Within, linesLen};
 
 // Reads a frame of each line, row after row.
 pub(crate) fn read_lines(n: usize, f: usize, rings: Rings, store: &[f32], rows: &mut [f32])
     requires { ⌜ LinesFit n f rings (length (now store)) (length (now rows)) ⌝ }
     ensures { λ _. ⌜ now (rows .exit) ≡ readsOf n f rings (now (store .entry)) ⌝ }
 {
-    let ls = rings.lengths;
-    let cs = rings.lines;
+    let ls = rings.lines.lengths;
+    let cs = rings.lines.cursors;
     let mut a = 0usize;
     let mut b = 0usize;
     for i in 0..n {
@@ -38,10 +39,10 @@ pub(crate) fn read_lines(n: usize, f: usize, rings: Rings, store: &[f32], rows: 
 // Puts each row into its line's ring, and leaves what lies after the lines.
 pub(crate) fn put_lines(n: usize, f: usize, rings: Rings, rows: &[f32], store: &mut [f32])
     requires { ⌜ LinesFit n f rings (length (now store)) (length (now rows)) ⌝ }
-    ensures { λ _. ⌜ now (store .exit) ≡ putInto n f rings (now (rows .entry)) (afterLines n rings (now (store .entry))) (now (store .entry)) ⌝ }
+    ensures { λ _. ⌜ now (store .exit) ≡ settled n f rings (now (rows .entry)) (drop (linesLen n rings) (now (store .entry))) (now (store .entry)) ⌝ }
 {
-    let ls = rings.lengths;
-    let cs = rings.lines;
+    let ls = rings.lines.lengths;
+    let cs = rings.lines.cursors;
     let mut a = 0usize;
     let mut b = 0usize;
     for i in 0..n {
@@ -54,30 +55,23 @@ pub(crate) fn put_lines(n: usize, f: usize, rings: Rings, rows: &[f32], store: &
     }
 }
 
-// Sets the allpass rings to `passes`. They lie at the end of a store.
-pub(crate) fn put_rings(passes: &[f32], store: &mut [f32])
-    requires { ⌜ length (now passes) ≤ length (now store) ⌝ }
-    ensures { λ _. ⌜ now (store .exit) ≡ take (length (now (store .entry)) - length (now (passes .entry))) (now (store .entry)) ++ now (passes .entry) ⌝ }
+// Sets the allpass rings, which lie at the end of a store, to `end`.
+pub(crate) fn put_rings(end: &[f32], store: &mut [f32])
+    requires { ⌜ length (now end) ≤ length (now store) ⌝ }
+    ensures { λ _. ⌜ now (store .exit) ≡ take (length (now (store .entry)) - length (now (end .entry))) (now (store .entry)) ++ now (end .entry) ⌝ }
 {
-    let at = store.len() - passes.len();
-    stages::copy(passes, &mut store[at..]);
+    let at = store.len() - end.len();
+    stages::copy(end, &mut store[at..]);
 }
 
-// Puts each row into its line's ring, and sets the allpass rings after the lines to `passes`.
-pub(crate) fn settle(
-    n: usize,
-    f: usize,
-    rings: Rings,
-    rows: &[f32],
-    passes: &[f32],
-    store: &mut [f32],
-)
+// Puts each row into its line's ring, and sets the allpass rings after the lines to `end`.
+pub(crate) fn settle(n: usize, f: usize, rings: Rings, rows: &[f32], end: &[f32], store: &mut [f32])
     requires { ⌜ LinesFit n f rings (length (now store)) (length (now rows)) ⌝ }
-    requires { ⌜ linesLen n rings + length (now passes) ≡ length (now store) ⌝ }
-    ensures { λ _. ⌜ now (store .exit) ≡ putInto n f rings (now (rows .entry)) (now (passes .entry)) (now (store .entry)) ⌝ }
+    requires { ⌜ linesLen n rings + length (now end) ≡ length (now store) ⌝ }
+    ensures { λ _. ⌜ now (store .exit) ≡ settled n f rings (now (rows .entry)) (now (end .entry)) (now (store .entry)) ⌝ }
 {
     put_lines(n, f, rings, rows, store);
-    put_rings(passes, store);
+    put_rings(end, store);
 }
 
 // The cursors of n lines after a frame.
@@ -104,7 +98,7 @@ pub(crate) fn move_passes(
     ls: [usize; PASS_RINGS],
     cs: [Cursors; PASS_RINGS],
 ) -> [Cursors; PASS_RINGS]
-    requires { ⌜ (f ≤ longestRing) × Within (length (wall .passes)) 0 ls cs ⌝ }
+    requires { ⌜ (f ≤ longestRing) × Within (length (wall .passLengths)) 0 ls cs ⌝ }
     ensures { λ r. ⌜ r ≡ allMoved f ls cs ⌝ }
 {
     let mut ds = cs;

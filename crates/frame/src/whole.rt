@@ -14,13 +14,15 @@ ghost use mathlib.Core.Path.{_≡_};
 ghost use mathlib.Core.Bool.{cond};
 ghost use mathlib.Core.List.{_++_};
 ghost use Prim.Native.Nat.{_+_, _*_, _<_, _≤_};
-ghost use lib.ListN.{length, take, drop, replicate};
-ghost use Rattle.samples.specs.Binary32.{+0};
+ghost use lib.ListN.{length, take, drop};
 ghost use Rattle.unit.specs.Model.{wall};
 ghost use Rattle.unit.specs.Sizes.{filtersLen};
-ghost use Rattle.stages.specs.Frame.{newFilters};
-ghost use Rattle.frame.specs.Workers.{LinesFit, SettleFits, FrameFits, readsOf, linesBy, frameBy, framed, finiteIn, putIn, outIn};
-ghost use Rattle.frame.specs.Workers.{judgedOf, judgedStore, judgedOut};
+ghost use Rattle.stages.specs.Frame.{lineRows, newFilters, readsOf, frameIn};
+ghost use Rattle.stages.specs.Settle.{settled};
+ghost use Rattle.rows.specs.Rows.{mixedPlace, outputPlace, rowsOf, joinedRows};
+ghost use Rattle.frame.specs.Parts.{rowsFinite};
+ghost use Rattle.frame.specs.Steps.{rowsIn, ranWithRoom, finishedWithRoom};
+ghost use Rattle.frame.specs.Workers.{LinesFit, SettleFits, FrameFits, judgedOf};
 
 // What a frame in the work memory came to: whether all of it is finite, and its filters.
 pub(crate) struct Judged {
@@ -41,9 +43,9 @@ pub(crate) fn play_lines(
     rows: &mut [f32],
 ) -> [Filter; FILTERS]
     requires { ⌜ LinesFit n f rings (length (now store)) (n * f) ⌝ }
-    requires { ⌜ (0 < n) × (length (now rows) ≡ f + n * f + n * f) ⌝ }
-    ensures { λ r. ⌜ r ≡ linesBy n f factor tail rings fs (take f (now (rows .entry))) (now (store .entry)) .filters ++ drop (3 * n) fs ⌝ }
-    ensures { λ _. ⌜ now (rows .exit) ≡ take f (now (rows .entry)) ++ (readsOf n f rings (now (store .entry)) ++ linesBy n f factor tail rings fs (take f (now (rows .entry))) (now (store .entry)) .put) ⌝ }
+    requires { ⌜ (0 < n) × (length (now rows) ≡ outputPlace n f) ⌝ }
+    ensures { λ r. ⌜ r ≡ lineRows n f factor tail fs (take f (now (rows .entry))) (readsOf n f rings (now (store .entry))) .filters ++ drop (3 * n) fs ⌝ }
+    ensures { λ _. ⌜ now (rows .exit) ≡ take f (now (rows .entry)) ++ (readsOf n f rings (now (store .entry)) ++ lineRows n f factor tail fs (take f (now (rows .entry))) (readsOf n f rings (now (store .entry))) .put) ⌝ }
 {
     let at = f + n * f;
     read_lines(n, f, rings, store, &mut rows[f..at]);
@@ -63,24 +65,22 @@ pub(crate) fn frame_rows(
     work: &mut [f32],
 ) -> [Filter; FILTERS]
     requires { ⌜ FrameFits n f rings (length (now store)) (length (now work)) ⌝ }
-    ensures { λ r. ⌜ r ≡ newFilters (frameBy n f factor divisor tail rings fs (take f (now (work .entry))) (now (store .entry))) ++ drop (3 * n + 3) fs ⌝ }
-    ensures { λ _. ⌜ now (work .exit) ≡ framed (take f (now (work .entry))) (frameBy n f factor divisor tail rings fs (take f (now (work .entry))) (now (store .entry))) ⌝ }
+    ensures { λ r. ⌜ r ≡ newFilters (frameIn n f factor divisor tail rings fs (take f (now (work .entry))) (now (store .entry))) ++ drop (3 * n + 3) fs ⌝ }
+    ensures { λ _. ⌜ now (work .exit) ≡ joinedRows (rowsIn (take f (now (work .entry))) (frameIn n f factor divisor tail rings fs (take f (now (work .entry))) (now (store .entry)))) ⌝ }
 {
     let at = f + n * f + n * f;
     let b = at + f;
     let a = store.len() - (work.len() - b);
     stages::copy(&store[a..], &mut work[b..]);
-    let ps = rings.sizes;
-    let qs = rings.passes;
     let gs = play_lines(n, f, factor, tail, rings, fs, store, &mut work[0..at]);
-    output_row(n, f, divisor, ps, qs, gs, &mut work[f..])
+    output_row(n, f, divisor, rings, gs, &mut work[f..])
 }
 
 // Whether all that a frame would keep or hand out is finite: the filters, and the work memory from
 // the rows to put on.
 pub(crate) fn frame_finite(n: usize, f: usize, fs: [Filter; FILTERS], work: &[f32]) -> bool
-    requires { ⌜ f + n * f ≤ length (now work) ⌝ }
-    ensures { λ r. ⌜ r ≡ finiteIn n f fs (now (work .entry)) ⌝ }
+    requires { ⌜ mixedPlace n f ≤ length (now work) ⌝ }
+    ensures { λ r. ⌜ r ≡ rowsFinite fs (rowsOf n f (now (work .entry))) ⌝ }
 {
     let at = f + n * f;
     and(stages::filters_finite(fs), all_finite(&work[at..], f))
@@ -96,8 +96,8 @@ pub(crate) fn settle_frame(
     output: &mut [f32],
 )
     requires { ⌜ SettleFits n f rings (length (now store)) (length (now work)) (length (now output)) ⌝ }
-    ensures { λ _. ⌜ now (store .exit) ≡ putIn n f rings (now (work .entry)) (now (store .entry)) ⌝ }
-    ensures { λ _. ⌜ now (output .exit) ≡ outIn n f (now (work .entry)) ⌝ }
+    ensures { λ _. ⌜ now (store .exit) ≡ settled n f rings (rowsOf n f (now (work .entry)) .mixed) (rowsOf n f (now (work .entry)) .rings) (now (store .entry)) ⌝ }
+    ensures { λ _. ⌜ now (output .exit) ≡ rowsOf n f (now (work .entry)) .output ⌝ }
 {
     let a = f + n * f;
     let p = a + n * f;
@@ -117,8 +117,8 @@ pub(crate) fn settle_if(
     output: &mut [f32],
 )
     requires { ⌜ SettleFits n f rings (length (now store)) (length (now work)) (length (now output)) ⌝ }
-    ensures { λ _. ⌜ now (store .exit) ≡ cond ok (putIn n f rings (now (work .entry)) (now (store .entry))) (now (store .entry)) ⌝ }
-    ensures { λ _. ⌜ now (output .exit) ≡ cond ok (outIn n f (now (work .entry))) (now (output .entry)) ⌝ }
+    ensures { λ _. ⌜ now (store .exit) ≡ cond ok (settled n f rings (rowsOf n f (now (work .entry)) .mixed) (rowsOf n f (now (work .entry)) .rings) (now (store .entry))) (now (store .entry)) ⌝ }
+    ensures { λ _. ⌜ now (output .exit) ≡ cond ok (rowsOf n f (now (work .entry)) .output) (now (output .entry)) ⌝ }
 {
     if !ok {
         return;
@@ -138,10 +138,10 @@ pub(crate) fn finish_frame(
     output: &mut [f32],
 ) -> bool
     requires { ⌜ SettleFits n f rings (length (now store)) (length (now work)) (length (now output)) ⌝ }
-    ensures { λ r. ⌜ r ≡ finiteIn n f fs (now (work .entry)) ⌝ }
-    ensures { λ _. ⌜ now (store .exit) ≡ cond (finiteIn n f fs (now (work .entry))) (putIn n f rings (now (work .entry)) (now (store .entry))) (now (store .entry)) ⌝ }
-    ensures { λ _. ⌜ now (work .exit) ≡ replicate (length (now (work .entry))) +0 ⌝ }
-    ensures { λ _. ⌜ now (output .exit) ≡ cond (finiteIn n f fs (now (work .entry))) (outIn n f (now (work .entry))) (now (output .entry)) ⌝ }
+    ensures { λ r. ⌜ r ≡ rowsFinite fs (rowsOf n f (now (work .entry))) ⌝ }
+    ensures { λ _. ⌜ now (store .exit) ≡ finishedWithRoom n f rings fs (now (store .entry)) (now (work .entry)) (now (output .entry)) .store ⌝ }
+    ensures { λ _. ⌜ now (work .exit) ≡ finishedWithRoom n f rings fs (now (store .entry)) (now (work .entry)) (now (output .entry)) .work ⌝ }
+    ensures { λ _. ⌜ now (output .exit) ≡ finishedWithRoom n f rings fs (now (store .entry)) (now (work .entry)) (now (output .entry)) .output ⌝ }
 {
     let ok = frame_finite(n, f, fs, work);
     settle_if(ok, n, f, rings, work, store, output);
@@ -165,10 +165,10 @@ pub(crate) fn judge_frame(
 ) -> Judged
     requires { ⌜ FrameFits n f rings (length (now store)) (length (now work)) ⌝ }
     requires { ⌜ (length (now output) ≡ f) × (3 * n + 3 ≡ filtersLen wall) ⌝ }
-    ensures { λ r. ⌜ r ≡ judgedOf (frameBy n f factor divisor tail rings fs (take f (now (work .entry))) (now (store .entry))) ⌝ }
-    ensures { λ _. ⌜ now (store .exit) ≡ judgedStore n f rings (frameBy n f factor divisor tail rings fs (take f (now (work .entry))) (now (store .entry))) (now (store .entry)) ⌝ }
-    ensures { λ _. ⌜ now (work .exit) ≡ replicate (length (now (work .entry))) +0 ⌝ }
-    ensures { λ _. ⌜ now (output .exit) ≡ judgedOut (frameBy n f factor divisor tail rings fs (take f (now (work .entry))) (now (store .entry))) (now (output .entry)) ⌝ }
+    ensures { λ r. ⌜ r ≡ judgedOf (ranWithRoom n f factor divisor tail rings fs (now (store .entry)) (now (work .entry)) (now (output .entry)) .stepped) ⌝ }
+    ensures { λ _. ⌜ now (store .exit) ≡ ranWithRoom n f factor divisor tail rings fs (now (store .entry)) (now (work .entry)) (now (output .entry)) .store ⌝ }
+    ensures { λ _. ⌜ now (work .exit) ≡ ranWithRoom n f factor divisor tail rings fs (now (store .entry)) (now (work .entry)) (now (output .entry)) .work ⌝ }
+    ensures { λ _. ⌜ now (output .exit) ≡ ranWithRoom n f factor divisor tail rings fs (now (store .entry)) (now (work .entry)) (now (output .entry)) .output ⌝ }
 {
     let gs = frame_rows(n, f, factor, divisor, tail, rings, fs, store, work);
     let ok = finish_frame(n, f, rings, gs, store, work, output);

@@ -23,7 +23,7 @@ use Rattle.unit.specs.UnitState.{UnitState}
 use Rattle.unit.specs.Model.{wall}
 use Rattle.unit.specs.Sizes.{lengths, storeLen}
 use Rattle.unit.specs.Range.{inRange, cursorsIn}
-use Rattle.unit.specs.Room.{ringsHold}
+use Rattle.unit.specs.Room.{unitRings, ringsHold}
 use Rattle.unit.proofs.Ranges.{lengths-long}
 use Rattle.judges.specs.Judges.{judged, workOk}
 use Rattle.rows.specs.Rows.{rowsOf, joinedRows}
@@ -66,7 +66,7 @@ module _ (f : ℕ) (w : List Float) (h : WorkFits wall f (length w)) where
       (a ≡ judgedRows 16 (length v)) × (x ≡ accept a (rowsMixed 16 (wall .factor) v) v) → putMid f (33 * f - f) w x ≡ mixLaid wall f w
   unfolding mixLaid rowsOf joinedRows
   mix-laid x a e =
-      let all : w ≡ take f w ++ ((reads ++ mixed) ++ rest) = all-rows f w ∙ ap (λ (l : List Float). take f w ++ l) (sym (append-assoc reads mixed rest)) in
+      let all : w ≡ take f w ++ ((reads ++ mixed) ++ rest) = all-rows 16 f w ∙ ap (λ (l : List Float). take f w ++ l) (sym (append-assoc reads mixed rest)) in
       let both : length (reads ++ mixed) ≡ k + k = length-append reads mixed ∙ (λ i. length-reads i + length-mixed i) in
       let m = middle f (33 * f) (take f w) (reads ++ mixed) rest w all (length-take-le f w (omega (arith, h .work-is))) (omega (arith, both)) in
       let ok : a ≡ Accepted = e .0 ∙ rw (m .0) (rows-accepted 16 f (length (reads ++ mixed)) (omega (arith, both))) in
@@ -97,10 +97,10 @@ module _ (u : UnitState) (work : List Float) (room : Bool) (e : room ≡ true) w
     -- the ring of line i gives a whole row
     pub read-work : (store work′ : List Float) → i < 16 → ringsHold (u .settings .frame) (lengths wall u) ≡ true → length store ≡ storeLen wall (lengths wall u)
         → WorkFits wall (u .settings .frame) (length work) → cursorsIn (lengths wall u) (u .cursors .lines) ≡ true
-        → work′ ≡ readLaid wall (u .settings .frame) (lengths wall u) i (getD (u .cursors .lines) i (both 0)) room store work → work′ ≡ readWork wall u i store work
+        → work′ ≡ readLaid wall (u .settings .frame) (unitRings wall u) i room store work → work′ ≡ readWork wall u i store work
     unfolding readLaid readWork
     read-work store work′ h hold long fits all q =
-        q ∙ rw (e, read-given (u .settings .frame) (lengths wall u) i store work h (lengths-long wall (u .settings) 16 0) hold long fits (u .cursors .lines) all) refl
+        q ∙ rw (e, read-given (u .settings .frame) (unitRings wall u) i store work h (lengths-long wall (u .settings) 16 0) hold long fits all) refl
 
 -- a job is let by for a line of the unit's alone
 pub line-of : (u : UnitState) (lent line turn : Bool) → judged wall u lent line turn ≡ Accepted → line ≡ true

@@ -18,8 +18,8 @@ use unit::MIX_MARK;
 use unit::OUTPUT_MARK;
 use unit::Outcome;
 use unit::State;
-use unit::lengths;
 use unit::quiet;
+use unit::rings_of;
 ghost use mathlib.Core.Path.{_≡_};
 ghost use mathlib.Core.List.{[]};
 ghost use Rattle.unit.specs.Model.{wall};
@@ -36,11 +36,8 @@ pub fn job_read(s: State, line: usize, store: &[f32], work: &mut [f32]) -> Outco
         return quiet(answer, s);
     }
     let f = s.frame;
-    let ls = lengths(s);
-    let cs = s.lines;
-    let c = cs[line];
     let fs = s.filters;
-    read_line(line, f, ls, c, store, work);
+    read_line(line, f, rings_of(s), store, work);
     quiet(answer, marked(s, line, fs))
 }
 

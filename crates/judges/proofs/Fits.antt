@@ -28,7 +28,7 @@ use Rattle.unit.proofs.Ranges.{wall-holds, wall-passes}
 -- what an accepted call tells of its state and of the lengths
 pub record Due (u : UnitState) (lent-ok : Bool) : Type 0 where
   pub sizes : (rateOk (u .settings .rate) && frameOk (u .settings .frame)) ≡ true
-  pub cursors : (cursorsIn (lengths wall u) (u .cursors .lines) && cursorsIn (wall .passes) (u .cursors .passes)) ≡ true
+  pub cursors : (cursorsIn (lengths wall u) (u .cursors .lines) && cursorsIn (wall .passLengths) (u .cursors .passes)) ≡ true
   pub lent : lent-ok ≡ true
 
 pub due-of : (u : UnitState) (lent line turn : Bool) → judged wall u lent line turn ≡ Accepted → Due u lent
@@ -36,7 +36,7 @@ unfolding judged inRange
 due-of u lent line turn e =
     let p = needed (inRange wall u) BadState (need lent BadLength (need line BadIndex (need turn OutOfTurn Accepted))) refl e in
     let q = needed lent BadLength (need line BadIndex (need turn OutOfTurn Accepted)) refl (p .1) in
-    let cursors = cursorsIn (lengths wall u) (u .cursors .lines) && cursorsIn (wall .passes) (u .cursors .passes) in
+    let cursors = cursorsIn (lengths wall u) (u .cursors .lines) && cursorsIn (wall .passLengths) (u .cursors .passes) in
     let s = split-and (rateOk (u .settings .rate) && frameOk (u .settings .frame)) (cursors && (u .held .busy || blankOpen u)) (p .0) in
     record { sizes = s .0; cursors = split-and cursors (u .held .busy || blankOpen u) (s .1) .0; lent = q .0 }
 

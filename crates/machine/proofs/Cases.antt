@@ -35,7 +35,7 @@ module _ (m : Model) (w : Memory) (output : List Float) (P : Ending → Type 0) 
 
   pub close-either :
       let due = judgedClose m (w .unit) (length (w .store)) (length (w .work)) (length output) in
-      let r = rowsOf m (w .unit .settings .frame) (w .work) in
+      let r = rowsOf (m .lines) (w .unit .settings .frame) (w .work) in
       (due ≡ Accepted → rowsFinite (w .unit .filters) r ≡ true → P (keptRows m w r))
       → (due ≡ Accepted → rowsFinite (w .unit .filters) r ≡ false → P (refused NotFinite (memoryShut m w) output))
       → (accepted due ≡ false → P (refused due w output))
@@ -43,4 +43,4 @@ module _ (m : Model) (w : Memory) (output : List Float) (P : Ending → Type 0) 
   unfolding ended
   close-either f g h =
       accept-either P (judgedClose m (w .unit) (length (w .store)) (length (w .work)) (length output))
-      (λ e. cond-either P (rowsFinite (w .unit .filters) (rowsOf m (w .unit .settings .frame) (w .work))) (f e) (g e)) h
+      (λ e. cond-either P (rowsFinite (w .unit .filters) (rowsOf (m .lines) (w .unit .settings .frame) (w .work))) (f e) (g e)) h

@@ -17,6 +17,7 @@ use Rattle.unit.specs.declared.Outcome.{Outcome}
 use Rattle.unit.specs.Outcome.{outcome}
 use Rattle.unit.specs.Model.{Model}
 use Rattle.stages.specs.Frame.{Frame, newFilters}
+use Rattle.unit.specs.Room.{unitRings}
 use Rattle.stages.specs.Settle.{frameFinite, settled}
 use Rattle.machine.specs.Ending.{Memory, Ending, outcomeOf, refused, quietly}
 use Rattle.machine.specs.Whole.{movedOn, played}
@@ -60,7 +61,7 @@ played-as-long m w r count output work e =
     (record {
       answer = Accepted;
       verdict = verdictOf count;
-      memory = record { unit = movedOn m (w .unit) (newFilters r) count; store = settled m (w .unit) r (w .store); work = replicate (e i) +0 };
+      memory = record { unit = movedOn m (w .unit) (newFilters r) count; store = settled (m .lines) (w .unit .settings .frame) (unitRings m (w .unit)) (r .lines .put) (r .output .rings) (w .store); work = replicate (e i) +0 };
       output = r .output .out;
     })
     (refused NotFinite (record { unit = w .unit; store = w .store; work = replicate (e i) +0 }) output)

@@ -18,11 +18,12 @@ use Rattle.iir.specs.declared.Filter.{Filter}
 use Rattle.unit.specs.UnitState.{UnitState}
 use Rattle.unit.specs.Model.{Model}
 use Rattle.unit.specs.Sizes.{lengths, jobsLen}
+use Rattle.unit.specs.Room.{unitRings}
 use Rattle.unit.specs.Fresh.{noFrame}
 use Rattle.judges.specs.Marks.{mixMark, lineMark, outputMark}
 use Rattle.judges.specs.Turns.{judgedOpenApply, judgedOpenTail, judgedRead, judgedMix, judgedLine, judgedOutput, judgedClose, judgedAbandon}
 use Rattle.stages.specs.Frame.{passesIn}
-use Rattle.stages.specs.Settle.{putRows, moved}
+use Rattle.stages.specs.Settle.{settled, moved}
 use Rattle.rows.specs.Rows.{Rows, rowsOf, laid}
 use Rattle.rows.specs.Parts.{lineLaid, lineEnds}
 use Rattle.rows.specs.Rings.{ringAt}
@@ -95,13 +96,13 @@ readRow m u i store = read (ringAt (lengths m u) 0 i store) (getD (u .cursors .l
 
 unfoldable pub readWork : Model → UnitState → ℕ → List Float → List Float → List Float
 readWork m u i store work =
-    let r = rowsOf m (u .settings .frame) work in
+    let r = rowsOf (m .lines) (u .settings .frame) work in
     laid (r .input) (setRow (u .settings .frame) i (readRow m u i store) (r .reads)) (r .mixed) (r .output) (r .rings)
 
 -- R5.12: step 3
 unfoldable pub mixLaid : Model → ℕ → List Float → List Float
 mixLaid m f work =
-    let r = rowsOf m f work in
+    let r = rowsOf (m .lines) f work in
     laid (r .input) (r .reads) (mixedRows (m .lines) f (m .factor) (r .reads)) (r .output) (r .rings)
 
 -- R5.11 to R5.14: the work memory after a job. Line i leaves step 4, the output step 5 and the allpass rings
@@ -157,7 +158,7 @@ keptRows m w r =
       verdict = verdictOf (u .held .next);
       memory = record {
         unit = unitClosed m u;
-        store = putRows (u .settings .frame) (m .lines) 0 (lengths m u) (u .cursors .lines) (r .mixed) (r .rings) (w .store);
+        store = settled (m .lines) (u .settings .frame) (unitRings m u) (r .mixed) (r .rings) (w .store);
         work = cleared (w .work);
       };
       output = r .output;
@@ -171,7 +172,7 @@ abbrev pub closed : Model → Memory → List Float → Ending
 closed m w output =
     let u = w .unit in
     let due = judgedClose m u (length (w .store)) (length (w .work)) (length output) in
-    accept due (ended m w (rowsOf m (u .settings .frame) (w .work)) output) (refused due w output)
+    accept due (ended m w (rowsOf (m .lines) (u .settings .frame) (w .work)) output) (refused due w output)
 
 -- R5.28: abandon
 abbrev pub abandoned : Model → Memory → Ending

@@ -16,10 +16,11 @@ use Rattle.bands.specs.Tail.{tailCount, fallen}
 use Rattle.unit.specs.UnitState.{UnitState}
 use Rattle.unit.specs.Model.{Model}
 use Rattle.unit.specs.Sizes.{lengths, filtersLen}
+use Rattle.unit.specs.Room.{unitRings}
 use Rattle.unit.specs.Fresh.{freshUnit}
 use Rattle.judges.specs.Judges.{judgedFresh, judgedReset, judgedApply, judgedTail}
 use Rattle.stages.specs.Lines.{filtersOf}
-use Rattle.stages.specs.Frame.{Frame, newFilters, frameOf}
+use Rattle.stages.specs.Frame.{Frame, newFilters, frameIn}
 use Rattle.stages.specs.Settle.{frameFinite, settled, moved}
 use Rattle.machine.specs.Ending.{Memory, Ending, refused, quietly, cleared}
 
@@ -68,7 +69,8 @@ countFor u tail = fallen (u .count)
 
 -- its frame
 abbrev pub frameFor : Model → UnitState → Play → List Float → Frame
-frameFor m u p store = frameOf m (isTail p) u (filtersFor m u p) (inputFor u p) store
+frameFor m u p store =
+    frameIn (m .lines) (u .settings .frame) (m .factor) (m .divisor) (isTail p) (unitRings m u) (filtersFor m u p) (inputFor u p) store
 
 -- R2.22, R2.23: what is due of the whole call before its frame is judged
 abbrev pub wholeDue : Model → UnitState → Play → ℕ → ℕ → ℕ → Answer
@@ -83,12 +85,18 @@ movedOn m u filters count = record { settings = u .settings; cursors = moved m u
 
 -- R4.17 to R4.23: a frame r kept and handed out, and the work memory cleared
 abbrev pub kept : Model → Memory → Frame → ℤ → Ending
-kept m w r count = record {
-  answer = Accepted;
-  verdict = verdictOf count;
-  memory = record { unit = movedOn m (w .unit) (newFilters r) count; store = settled m (w .unit) r (w .store); work = cleared (w .work) };
-  output = r .output .out;
-}
+kept m w r count =
+    let u = w .unit in
+    record {
+      answer = Accepted;
+      verdict = verdictOf count;
+      memory = record {
+        unit = movedOn m u (newFilters r) count;
+        store = settled (m .lines) (u .settings .frame) (unitRings m u) (r .lines .put) (r .output .rings) (w .store);
+        work = cleared (w .work);
+      };
+      output = r .output .out;
+    }
 
 -- a memory whose work memory is cleared
 abbrev pub wiped : Memory → Memory

@@ -57,7 +57,7 @@ rows-of-zeros f rings =
     ∙ ap (λ (l : List Float). replicate (16 * f) +0 ++ l) (append-assoc (replicate (16 * f) +0) (replicate f +0) rings))
 
 -- the parts of a store
-pub lines-before : (u : UnitState) (store : ℕ) → store ≡ storeLen wall (lengths wall u) → total (lengths wall u) + total (wall .passes) ≡ store
+pub lines-before : (u : UnitState) (store : ℕ) → store ≡ storeLen wall (lengths wall u) → total (lengths wall u) + total (wall .passLengths) ≡ store
 unfolding storeLen
 lines-before u store e = sym e
 
@@ -72,7 +72,7 @@ unfolding openLaid joinedRows
 begin-laid u store w x n h e z ex =
     let f = u .settings .frame in
     let t = total (lengths wall u) in
-    let rings = total (wall .passes) in
+    let rings = total (wall .passLengths) in
     let parts = lines-before u (length store) e in
     let long : length w ≡ n = ap length z ∙ length-replicate n +0 in
     let sum : n ≡ 34 * f + rings = omega (arith, h .work-is) in

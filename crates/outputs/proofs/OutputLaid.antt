@@ -29,7 +29,7 @@ module _ (f : ℕ) (w : List Float) where
   -- step 5 on what lies after the input
   pub laid-output : (qs : List Cursors) (fs gs : List Filter) (x : List Float) → WorkFits wall f (length w)
       → let v = take (length w - f) (drop f w) in
-      let r = outputRow 16 f (wall .divisor) (wall .passes) qs fs (drop (k + k + f) v) (take k v) in
+      let r = outputRow 16 f (wall .divisor) (wall .passLengths) qs fs (drop (k + k + f) v) (take k v) in
       gs ≡ over 48 (r .filters) fs → x ≡ take (k + k) v ++ (r .out ++ r .rings)
       → (gs ≡ outputEnds wall f qs fs true w) × (putMid f (length w - f) w x ≡ outputLaid wall f qs fs true w)
   unfolding outputEnds outputLaid rowsOf joinedRows

@@ -12,14 +12,14 @@ use Rattle.rows.specs.Rows.{Rows, rowsOf, laid}
 
 -- R5.14, R5.15: step 5 from the rows read and the allpass rings in the work memory
 abbrev pub outputIn : Model → ℕ → List Cursors → List Filter → Rows → OutputRow
-outputIn m f qs fs r = outputRow (m .lines) f (m .divisor) (m .passes) qs fs (r .rings) (r .reads)
+outputIn m f qs fs r = outputRow (m .lines) f (m .divisor) (m .passLengths) qs fs (r .rings) (r .reads)
 
 -- R5.14, R5.17: the work memory after it
 unfoldable pub outputLaid : Model → ℕ → List Cursors → List Filter → Bool → List Float → List Float
 outputLaid m f qs fs room work =
-    let r = rowsOf m f work in
+    let r = rowsOf (m .lines) f work in
     cond room (laid (r .input) (r .reads) (r .mixed) (outputIn m f qs fs r .out) (outputIn m f qs fs r .rings)) work
 
 -- R5.14, R5.17: and the filters. The tone's three are those after the lines'
 unfoldable pub outputEnds : Model → ℕ → List Cursors → List Filter → Bool → List Float → List Filter
-outputEnds m f qs fs room work = cond room (over (3 * m .lines) (outputIn m f qs fs (rowsOf m f work) .filters) fs) fs
+outputEnds m f qs fs room work = cond room (over (3 * m .lines) (outputIn m f qs fs (rowsOf (m .lines) f work) .filters) fs) fs

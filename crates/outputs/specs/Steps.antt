@@ -7,6 +7,7 @@ use lib.ListN.{length, take, drop}
 use Rattle.samples.specs.Lists.{over}
 use Rattle.delay.specs.declared.Cursors.{Cursors}
 use Rattle.iir.specs.declared.Filter.{Filter}
+use Rattle.unit.specs.declared.Rings.{Rings}
 use Rattle.stages.specs.Frame.{OutputRow, outputRow}
 use Rattle.rows.specs.Fits.{outputFits}
 
@@ -14,10 +15,12 @@ use Rattle.rows.specs.Fits.{outputFits}
 abbrev pub outputFrom : ℕ → ℕ → Float → List ℕ → List Cursors → List Filter → List Float → OutputRow
 outputFrom n f d ps qs fs rows = outputRow n f d ps qs fs (drop (n * f + n * f + f) rows) (take (n * f) rows)
 
-unfoldable pub outputMade : ℕ → ℕ → Float → List ℕ → List Cursors → List Filter → List Float → List Float
-outputMade n f d ps qs fs rows =
-    let r = outputFrom n f d ps qs fs rows in
-    cond (outputFits n f ps (length rows)) (take (n * f + n * f) rows ++ (r .out ++ r .rings)) rows
+-- the same on the rings r
+unfoldable pub outputMade : ℕ → ℕ → Float → Rings → List Filter → List Float → List Float
+outputMade n f d r fs rows =
+    let x = outputFrom n f d (r .passes .lengths) (r .passes .cursors) fs rows in
+    cond (outputFits n f (r .passes .lengths) (length rows)) (take (n * f + n * f) rows ++ (x .out ++ x .rings)) rows
 
-unfoldable pub outputAfter : ℕ → ℕ → Float → List ℕ → List Cursors → List Filter → List Float → List Filter
-outputAfter n f d ps qs fs rows = cond (outputFits n f ps (length rows)) (over (3 * n) (outputFrom n f d ps qs fs rows .filters) fs) fs
+unfoldable pub outputAfter : ℕ → ℕ → Float → Rings → List Filter → List Float → List Filter
+outputAfter n f d r fs rows =
+    cond (outputFits n f (r .passes .lengths) (length rows)) (over (3 * n) (outputFrom n f d (r .passes .lengths) (r .passes .cursors) fs rows .filters) fs) fs

@@ -13,8 +13,9 @@ use rows::work_for;
 use unit::DIVISOR;
 use unit::FILTERS;
 use unit::LINES;
+use unit::PASS_LENGTHS;
 use unit::PASS_RINGS;
-use unit::PASSES;
+use unit::Rings;
 ghost use mathlib.Core.Path.{_≡_};
 ghost use mathlib.Core.Bool.{true};
 ghost use lib.ListN.{length};
@@ -24,20 +25,21 @@ ghost use Rattle.rows.specs.Workers.{WorkFits};
 ghost use Rattle.outputs.specs.Steps.{outputMade, outputAfter};
 ghost use Rattle.outputs.specs.Parts.{outputLaid, outputEnds};
 
-// Step 5 of n lines: `rows` are n rows read, n mixed, the output and the allpass rings, whose lengths
-// are `ps`. Gives the filters after it. Where the rows don't fit nothing is done (R4.10 to R4.12).
+// Step 5 of n lines: `rows` are n rows read, n mixed, the output and the allpass rings. Gives the
+// filters after it. Where the rows don't fit nothing is done (R4.10 to R4.12).
 pub fn output_row(
     n: usize,
     f: usize,
     divisor: f32,
-    ps: [usize; PASS_RINGS],
-    qs: [Cursors; PASS_RINGS],
+    rings: Rings,
     fs: [Filter; FILTERS],
     rows: &mut [f32],
 ) -> [Filter; FILTERS]
-    ensures { λ r. ⌜ r ≡ outputAfter n f divisor ps qs fs (now (rows .entry)) ⌝ }
-    ensures { λ _. ⌜ now (rows .exit) ≡ outputMade n f divisor ps qs fs (now (rows .entry)) ⌝ }
+    ensures { λ r. ⌜ r ≡ outputAfter n f divisor rings fs (now (rows .entry)) ⌝ }
+    ensures { λ _. ⌜ now (rows .exit) ≡ outputMade n f divisor rings fs (now (rows .entry)) ⌝ }
 {
+    let ps = rings.passes.lengths;
+    let qs = rings.passes.cursors;
     if !output_fits(n, f, ps, rows.len()) {
         return fs;
     }
@@ -72,5 +74,5 @@ fn wall_output(
     ensures { λ r. ⌜ r ≡ outputEnds wall f qs fs true (now (work .entry)) ⌝ }
     ensures { λ _. ⌜ now (work .exit) ≡ outputLaid wall f qs fs true (now (work .entry)) ⌝ }
 {
-    output_in(LINES, f, DIVISOR, PASSES, qs, fs, &mut work[f..])
+    output_in(LINES, f, DIVISOR, PASS_LENGTHS, qs, fs, &mut work[f..])
 }

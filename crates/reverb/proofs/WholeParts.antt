@@ -17,13 +17,13 @@ use Rattle.iir.specs.declared.Filter.{Filter}
 use Rattle.unit.specs.declared.State.{State}
 use Rattle.unit.specs.declared.Rings.{Rings}
 use Rattle.unit.specs.declared.Outcome.{Outcome}
-use Rattle.unit.specs.UnitState.{UnitState, ofState}
+use Rattle.unit.specs.UnitState.{ofState}
 use Rattle.unit.specs.Model.{wall}
 use Rattle.unit.specs.Room.{unitRings, roomOk}
 use Rattle.unit.specs.Fresh.{blank}
 use Rattle.stages.specs.Lines.{filtersOf}
-use Rattle.stages.specs.Frame.{Frame, frameFrom, frameOf, lineRows}
-use Rattle.stages.specs.Settle.{frameFinite, settled}
+use Rattle.stages.specs.Frame.{Frame, frameIn, lineRows}
+use Rattle.stages.specs.Settle.{frameFinite}
 use Rattle.stages.specs.Steps.{copied}
 use Rattle.frame.specs.declared.Stepped.{Stepped}
 use Rattle.frame.specs.Steps.{Left, leftBy, ran, ranWithRoom, untouched}
@@ -41,7 +41,7 @@ pub ended : (s : State) (tail : Bool) (fs : List Filter) (count : ℤ) (store wo
     → let l = ran wall (s .frame) r tail fs store work output in
     x ≡ l .stepped → store′ ≡ l .store → work′ ≡ l .work → output′ ≡ l .output → y ≡ playedBy u x count
     → Ends (playing s tail fs count store work output) y store′ work′ output′
-unfolding leftBy played settled
+unfolding leftBy played
 ended s tail fs count store work output room v e x y store′ work′ output′ ex es ew eo ey =
     let here : ran wall (s .frame) v tail fs store work output ≡ R =
     ap (λ (k : Rings). ran wall (s .frame) k tail fs store work output) e
@@ -55,10 +55,10 @@ ended s tail fs count store work output room v e x y store′ work′ output′ 
     )
   where
     r : Frame
-    r = frameOf wall tail (ofState s) fs (take (s .frame) work) store
+    r = frameIn (wall .lines) (s .frame) (wall .factor) (wall .divisor) tail (unitRings wall (ofState s)) fs (take (s .frame) work) store
 
     R : Left
-    R = ranWithRoom wall (s .frame) (unitRings wall (ofState s)) tail fs store work output
+    R = ranWithRoom (wall .lines) (s .frame) (wall .factor) (wall .divisor) tail (unitRings wall (ofState s)) fs store work output
 
     go : (b : Bool) → frameFinite r ≡ b
         → Ends (playing s tail fs count store work output) (playedBy (ofState s) (R .stepped) count) (R .store) (R .work) (R .output)
@@ -79,9 +79,10 @@ as-call s p due r count store work work₀ output x store′ work′ output′ t
     h)
 
 -- R4.9: a tail adds nothing
-pub no-input : (u : UnitState) (fs : List Filter) (input input′ store : List Float) → frameOf wall true u fs input store ≡ frameOf wall true u fs input′ store
-unfolding frameFrom lineRows
-no-input u fs input input′ store = refl
+pub no-input : (n f : ℕ) (k d : Float) (v : Rings) (fs : List Filter) (input input′ store : List Float)
+    → frameIn n f k d true v fs input store ≡ frameIn n f k d true v fs input′ store
+unfolding frameIn lineRows
+no-input n f k d v fs input input′ store = refl
 
 -- R1.16: five coefficients a filter
 pub filters-given : (coefficients : List Float) (fs : List Filter) → length coefficients ≡ 255

@@ -12,8 +12,9 @@ use Rattle.unit.specs.declared.State.{State}
 use Rattle.unit.specs.declared.Outcome.{Outcome}
 use Rattle.unit.specs.UnitState.{UnitState, ofState}
 use Rattle.unit.specs.Model.{wall}
+use Rattle.unit.specs.Room.{unitRings}
 use Rattle.unit.specs.Outcome.{outcome}
-use Rattle.stages.specs.Frame.{frameOf}
+use Rattle.stages.specs.Frame.{frameIn}
 use Rattle.frame.specs.declared.Stepped.{Stepped}
 use Rattle.machine.specs.Ending.{Ending, lend}
 use Rattle.machine.specs.Whole.{played}
@@ -30,4 +31,6 @@ playedBy u x count = cond (x .ok) (outcome Accepted (stepped u x count) (verdict
 -- a frame through the filters fs, the input at the front of the work memory
 abbrev pub playing : State → Bool → List Filter → ℤ → List Float → List Float → List Float → Ending
 playing s tail fs count store work output =
-    played wall (lend s store work) (frameOf wall tail (ofState s) fs (take (s .frame) work) store) count output
+    let r = unitRings wall (ofState s) in
+    let x = frameIn (wall .lines) (s .frame) (wall .factor) (wall .divisor) tail r fs (take (s .frame) work) store in
+    played wall (lend s store work) x count output

@@ -4,6 +4,7 @@ pub mod SumTurns
 pub mod BandTurns
 pub mod RowJoins
 pub mod RowsOf
+pub mod Joined
 pub mod RowFits
 pub mod LineLaid
 pub mod ReadLaid

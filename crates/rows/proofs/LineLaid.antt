@@ -44,7 +44,7 @@ module _ (f i : ℕ) (w : List Float) (h : i < 16) (fits : WorkFits wall f (leng
     unfolding joinedRows
     read-set =
         row-set f f 16 i w h r e (omega (arith, fits .work-is))
-        ∙ ap (λ (l : List Float). take f w ++ (setRow f i r reads ++ l)) (from-mixed f w)
+        ∙ ap (λ (l : List Float). take f w ++ (setRow f i r reads ++ l)) (from-mixed 16 f w)
 
     -- row i of those mixed
     pub mixed-set : over (17 * f + i * f) r w ≡ laid (take f w) reads (setRow f i r mixed) (take f (drop (f + k + k) w)) (drop (f + k + k + f) w)

@@ -21,6 +21,7 @@ use Rattle.delay.specs.declared.Cursors.{Cursors}
 use Rattle.delay.specs.Calls.{both, getOut}
 use Rattle.delay.specs.Ring.{read}
 use Rattle.delay.proofs.Laws.{Moves, get-ok}
+use Rattle.unit.specs.declared.Rings.{Rings}
 use Rattle.unit.specs.Model.{wall}
 use Rattle.unit.specs.Sizes.{total, storeLen}
 use Rattle.unit.specs.Range.{cursorsIn}
@@ -58,8 +59,14 @@ line-fits f ls i store work e =
 
 -- ---- the row of line i
 
-module _ (f : ℕ) (ls : List ℕ) (i : ℕ) (store w : List Float) (h : i < 16) (all : length ls ≡ 16) (rings : ringsHold f ls ≡ true)
-    (long : length store ≡ storeLen wall ls) (fits : WorkFits wall f (length w)) where
+module _ (f : ℕ) (v : Rings) (i : ℕ) (store w : List Float) (h : i < 16) (all : length (v .lines .lengths) ≡ 16)
+    (rings : ringsHold f (v .lines .lengths) ≡ true) (long : length store ≡ storeLen wall (v .lines .lengths)) (fits : WorkFits wall f (length w)) where
+  abbrev ls : List ℕ
+  ls = v .lines .lengths
+
+  abbrev c : Cursors
+  c = getD (v .lines .cursors) i (both 0)
+
   abbrev start : ℕ
   start = total (take i ls)
 
@@ -79,13 +86,13 @@ module _ (f : ℕ) (ls : List ℕ) (i : ℕ) (store w : List Float) (h : i < 16)
   pub row-within : f + i * f + f ≤ length w
   row-within = omega (arith, row-ends i 16 f h, fits .work-is)
 
-  pub read-laid : (c : Cursors) (a : ℕ) (x : List Float) → a ≡ start
+  pub read-laid : (a : ℕ) (x : List Float) → a ≡ start
       → let b = f + i * f in
       length x ≡ length (take (b + f - b) (drop b w))
       → x ≡ getOut (take (a + l - a) (drop a store)) c (take (b + f - b) (drop b w))
-      → putMid b (b + f - b) w x ≡ readLaid wall f ls i c true store w
+      → putMid b (b + f - b) w x ≡ readLaid wall f v i true store w
   unfolding readLaid rowsOf
-  read-laid c a x ea kept ex =
+  read-laid a x ea kept ex =
       let b = f + i * f in
       let whole : length x ≡ f = kept ∙ lent-long b w f row-within in
       let ring : take (a + l - a) (drop a store) ≡ ringAt ls 0 i store = lent a l store ∙ rw (ea, ring-at ls i store) refl in
@@ -93,13 +100,11 @@ module _ (f : ℕ) (ls : List ℕ) (i : ℕ) (store w : List Float) (h : i < 16)
       come-back b w f x whole ∙ read-set f i w h fits x whole ∙ rw got refl
 
   -- a ring whose cursors are within it gives the row whole
-  pub read-given : (cs : List Cursors) → cursorsIn ls cs ≡ true
-      → readIn f ls i (getD cs i (both 0)) store (rowsOf wall f w) ≡ read (ringAt ls 0 i store) (getD cs i (both 0) .read .0) f
+  pub read-given : cursorsIn ls (v .lines .cursors) ≡ true → readIn f v i store (rowsOf 16 f w) ≡ read (ringAt ls 0 i store) (c .read .0) f
   unfolding rowsOf
-  read-given cs in-rings =
-      let c = getD cs i (both 0) in
+  read-given in-rings =
       let row′ = row f i (take (16 * f) (drop f w)) in
-      let within = cursors-at ls cs in-rings i (omega (arith, fits .some, ring-holds .0)) in
+      let within = cursors-at ls (v .lines .cursors) in-rings i (omega (arith, fits .some, ring-holds .0)) in
       let lr : length (ringAt ls 0 i store) ≡ l = ap length (ring-at ls i store) ∙ part-long start store l ring-within in
       let lo : length row′ ≡ f = ap length (sym (read-at f i w h fits)) ∙ part-long (f + i * f) w f row-within in
       let m : Moves l c f = record {

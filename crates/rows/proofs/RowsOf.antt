@@ -1,4 +1,4 @@
--- The work memory of the wall unit by its rows. Assumes nothing.
+-- The work memory of n lines, and the wall unit's, by its rows. Assumes nothing.
 use mathlib.Core.Path.{_≡_, sym, ap, _∙_}
 use mathlib.Core.Bool.{true}
 use mathlib.Core.List.{List, _++_}
@@ -13,12 +13,13 @@ use Rattle.samples.proofs.Laws.{split-and, frame-of}
 use Rattle.samples.proofs.Lists.{cut}
 use Rattle.unit.specs.Model.{wall}
 use Rattle.unit.specs.Sizes.{total, workLen}
+use Rattle.rows.specs.Rows.{ringsPlace}
 use Rattle.rows.specs.Fits.{workFor}
 use Rattle.rows.specs.Workers.{WorkFits}
 
-module _ (f : ℕ) (w : List Float) where
+module _ (n f : ℕ) (w : List Float) where
   abbrev k : ℕ
-  k = 16 * f
+  k = n * f
 
   -- from the rows mixed on
   pub from-mixed : drop (f + k) w ≡ take k (drop (f + k) w) ++ (take f (drop (f + k + k) w) ++ drop (f + k + k + f) w)
@@ -30,7 +31,7 @@ module _ (f : ℕ) (w : List Float) where
       sym (take-append-drop f w) ∙ ap (λ (l : List Float). take f w ++ l) (cut f w k ∙ ap (λ (l : List Float). take k (drop f w) ++ l) from-mixed)
 
 -- a work memory of frames of f
-pub work-parts : (f work : ℕ) → work ≡ workLen wall f → work ≡ f + 16 * f + 16 * f + f + total (wall .passes)
+pub work-parts : (f work : ℕ) → work ≡ workLen wall f → work ≡ ringsPlace 16 f + total (wall .passLengths)
 unfolding workLen
 work-parts f work e = omega arith
 

@@ -7,6 +7,7 @@ use Rattle.samples.specs.Sizes.{frameOk}
 use Rattle.delay.specs.Calls.{longestRing}
 use Rattle.unit.specs.Model.{Model, wall}
 use Rattle.unit.specs.Sizes.{total, workLen}
+use Rattle.rows.specs.Rows.{outputPlace}
 
 -- from one line to all of the wall unit's, and rows no longer than a ring may be
 unfoldable pub fewRows : ℕ → ℕ → Bool
@@ -14,7 +15,7 @@ fewRows n f = leb 1 n && (leb n (wall .lines) && leb f longestRing)
 
 -- `len` floats are the input, n rows read and n mixed
 unfoldable pub linesFit : ℕ → ℕ → ℕ → Bool
-linesFit n f len = fewRows n f && eqb len (f + n * f + n * f)
+linesFit n f len = fewRows n f && eqb len (outputPlace n f)
 
 -- `len` floats are n rows read, n mixed, the output, and allpass rings of the lengths ps
 unfoldable pub outputFits : ℕ → ℕ → List ℕ → ℕ → Bool

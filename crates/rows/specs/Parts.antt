@@ -19,10 +19,10 @@ lineIn f i tail fs r =
 -- R5.13, R5.17: the work memory after it
 unfoldable pub lineLaid : Model → ℕ → ℕ → Bool → List Filter → Bool → List Float → List Float
 lineLaid m f i tail fs room work =
-    let r = rowsOf m f work in
+    let r = rowsOf (m .lines) f work in
     cond room (laid (r .input) (r .reads) (setRow f i (lineIn f i tail fs r) (r .mixed)) (r .output) (r .rings)) work
 
 -- R5.13, R5.17: and the filters
 unfoldable pub lineEnds : Model → ℕ → ℕ → List Filter → Bool → List Float → List Filter
 lineEnds m f i fs room work =
-    cond room (over (3 * i) (threeOf (bandsEnd (three (3 * i) fs) (row f i (rowsOf m f work .mixed)))) fs) fs
+    cond room (over (3 * i) (threeOf (bandsEnd (three (3 * i) fs) (row f i (rowsOf (m .lines) f work .mixed)))) fs) fs

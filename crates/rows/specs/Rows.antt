@@ -3,7 +3,6 @@ use Prim.Native.Nat.{ℕ, _+_, _*_}
 use mathlib.Core.List.{List, _++_}
 use lib.Ieee.{Float}
 use lib.ListN.{take, drop}
-use Rattle.unit.specs.Model.{Model}
 
 -- the work memory: the input, the rows read, the rows mixed, which become those to put (R1.23), the output and the allpass rings
 pub record Rows : Type 0 where
@@ -13,17 +12,25 @@ pub record Rows : Type 0 where
   pub output : List Float
   pub rings : List Float
 
--- the work memory of a frame of f cut so
-unfoldable pub rowsOf : Model → ℕ → List Float → Rows
-rowsOf m f work =
-    let k = m .lines * f in
-    record {
-      input = take f work;
-      reads = take k (drop f work);
-      mixed = take k (drop (f + k) work);
-      output = take f (drop (f + k + k) work);
-      rings = drop (f + k + k + f) work;
-    }
+-- where the rows mixed, the output and the allpass rings begin, of n lines and a frame of f
+abbrev pub mixedPlace : ℕ → ℕ → ℕ
+mixedPlace n f = f + n * f
+
+abbrev pub outputPlace : ℕ → ℕ → ℕ
+outputPlace n f = f + n * f + n * f
+
+abbrev pub ringsPlace : ℕ → ℕ → ℕ
+ringsPlace n f = f + n * f + n * f + f
+
+-- the work memory of n lines and a frame of f cut so
+unfoldable pub rowsOf : ℕ → ℕ → List Float → Rows
+rowsOf n f work = record {
+  input = take f work;
+  reads = take (n * f) (drop f work);
+  mixed = take (n * f) (drop (mixedPlace n f) work);
+  output = take f (drop (outputPlace n f) work);
+  rings = drop (ringsPlace n f) work;
+}
 
 -- and joined again
 unfoldable pub joinedRows : Rows → List Float

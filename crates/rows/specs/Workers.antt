@@ -8,13 +8,14 @@ use Rattle.iir.specs.declared.Bands.{Bands}
 use Rattle.unit.specs.Model.{Model}
 use Rattle.unit.specs.Sizes.{total}
 use Rattle.stages.specs.Lines.{three, threeOf}
+use Rattle.rows.specs.Rows.{ringsPlace}
 
 -- a work memory is one of frames of f samples
 pub record WorkFits (m : Model) (f work : ℕ) : Type 0 where
   pub some : 0 < f
   pub short : f ≤ longestFrame
   pub fours : f % 4 ≡ 0
-  pub work-is : work ≡ f + m .lines * f + m .lines * f + f + total (m .passes)
+  pub work-is : work ≡ ringsPlace (m .lines) f + total (m .passLengths)
 
 -- the bands of four lines: the twelve filters from k on, three a line
 abbrev pub fourFrom : ℕ → List Filter → List Bands

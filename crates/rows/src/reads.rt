@@ -1,8 +1,8 @@
 // Step 2 of one line: a frame of it read into the work memory.
 use crate::fits::work_for;
-use delay::Cursors;
 use samples::and;
 use unit::LINES;
+use unit::Rings;
 use unit::is_store;
 use unit::rings_hold;
 ghost use mathlib.Core.Path.{_≡_};
@@ -15,22 +15,16 @@ ghost use Rattle.unit.specs.Room.{ringsHold};
 ghost use Rattle.rows.specs.Workers.{WorkFits};
 ghost use Rattle.rows.specs.Reads.{readLaid, lineRoom};
 
-// Step 2 of line i of lines' rings of the lengths `ls`, its cursors `c`: reads its row into the work
-// memory. On a store or a work memory that isn't one of such frames nothing is done (R5.11).
-pub fn read_line(
-    i: usize,
-    f: usize,
-    ls: [usize; LINES],
-    c: Cursors,
-    store: &[f32],
-    work: &mut [f32],
-)
-    ensures { λ _. ⌜ now (work .exit) ≡ readLaid wall f ls i c (lineRoom wall f ls i (length (now (store .entry))) (length (now (work .entry)))) (now (store .entry)) (now (work .entry)) ⌝ }
+// Step 2 of line i of such rings: reads its row into the work memory. On a store or a work memory that
+// isn't one of such frames nothing is done (R5.11).
+pub fn read_line(i: usize, f: usize, rings: Rings, store: &[f32], work: &mut [f32])
+    ensures { λ _. ⌜ now (work .exit) ≡ readLaid wall f rings i (lineRoom wall f (rings .lines .lengths) i (length (now (store .entry))) (length (now (work .entry)))) (now (store .entry)) (now (work .entry)) ⌝ }
 {
+    let ls = rings.lines.lengths;
     if !line_room(i, f, ls, store.len(), work.len()) {
         return;
     }
-    wall_read(i, f, ls, c, store, work);
+    wall_read(i, f, rings, store, work);
 }
 
 // Whether there is such a line, and the memory is one of such rings and of frames of f samples.
@@ -42,10 +36,13 @@ fn line_room(i: usize, f: usize, ls: [usize; LINES], store: usize, work: usize) 
 }
 
 // The same on memory that is.
-fn wall_read(i: usize, f: usize, ls: [usize; LINES], c: Cursors, store: &[f32], work: &mut [f32])
-    requires { ⌜ (i < wall .lines) × WorkFits wall f (length (now work)) × (ringsHold f ls ≡ true) × (length (now store) ≡ storeLen wall ls) ⌝ }
-    ensures { λ _. ⌜ now (work .exit) ≡ readLaid wall f ls i c true (now (store .entry)) (now (work .entry)) ⌝ }
+fn wall_read(i: usize, f: usize, rings: Rings, store: &[f32], work: &mut [f32])
+    requires { ⌜ (i < wall .lines) × WorkFits wall f (length (now work)) × (ringsHold f (rings .lines .lengths) ≡ true) × (length (now store) ≡ storeLen wall (rings .lines .lengths)) ⌝ }
+    ensures { λ _. ⌜ now (work .exit) ≡ readLaid wall f rings i true (now (store .entry)) (now (work .entry)) ⌝ }
 {
+    let ls = rings.lines.lengths;
+    let cs = rings.lines.cursors;
+    let c = cs[i];
     let a = line_start(i, ls);
     let e = a + ls[i];
     let b = f + i * f;

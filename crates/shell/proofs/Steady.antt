@@ -36,7 +36,7 @@ use Rattle.shell.proofs.Left.{left}
 pub record Steady (u : UnitState) : Type 0 where
   pub set-to : u .settings ≡ record { rate = rate; frame = frame }
   pub lines-in : cursorsIn (lengths wall u) (u .cursors .lines) ≡ true
-  pub passes-in : cursorsIn (wall .passes) (u .cursors .passes) ≡ true
+  pub passes-in : cursorsIn (wall .passLengths) (u .cursors .passes) ≡ true
   pub shut : u .held ≡ noFrame wall
 
 begins : Steady (freshUnit wall rate frame)
@@ -52,7 +52,7 @@ steady-play u p store work s = rw (left u p store work .0) (accept-either Steady
     on = record {
       set-to = s .set-to;
       lines-in = cursors-moved (u .settings .frame) (lengths wall u) (u .cursors .lines) (s .lines-in);
-      passes-in = cursors-moved (u .settings .frame) (wall .passes) (u .cursors .passes) (s .passes-in);
+      passes-in = cursors-moved (u .settings .frame) (wall .passLengths) (u .cursors .passes) (s .passes-in);
       shut = s .shut;
     }
 

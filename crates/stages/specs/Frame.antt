@@ -11,10 +11,7 @@ use Rattle.hadamard.specs.Rows.{mixedRows}
 use Rattle.iir.specs.declared.Filter.{Filter}
 use Rattle.iir.specs.Runs.{runOut, bandsEnd}
 use Rattle.unit.specs.declared.Rings.{Rings}
-use Rattle.unit.specs.UnitState.{UnitState}
-use Rattle.unit.specs.Model.{Model}
 use Rattle.unit.specs.Sizes.{total}
-use Rattle.unit.specs.Room.{unitRings}
 use Rattle.allpass.specs.Passes.{Stage, passOut, passEnd}
 use Rattle.stages.specs.Lines.{noFilter, readRows, bandRows, bandEnds, addRows, sumRows, three, threeOf}
 
@@ -102,23 +99,20 @@ pub record Frame : Type 0 where
 abbrev pub newFilters : Frame → List Filter
 newFilters r = r .lines .filters ++ r .output .filters
 
--- from the rows that were read, and from what the allpass rings hold
-unfoldable pub frameFrom : Model → ℕ → Bool → Rings → List Filter → List Float → List Float → List Float → Frame
-frameFrom m f tail r fs input passes reads = record {
-  reads = reads;
-  lines = lineRows (m .lines) f (m .factor) tail fs input reads;
-  output = outputRow (m .lines) f (m .divisor) (r .sizes) (r .passes) fs passes reads;
-}
+-- R4.5: step 2 of n lines, on the rings r of a store
+abbrev pub readsOf : ℕ → ℕ → Rings → List Float → List Float
+readsOf n f r store = readRows f n 0 (r .lines .lengths) (r .lines .cursors) store
 
 -- R1.20: the allpass rings, which lie after lines' rings of the lengths ls
 abbrev pub passesIn : List ℕ → List Float → List Float
 passesIn ls store = drop (total ls) store
 
--- the frame on the rings r of a store
-abbrev pub frameIn : Model → ℕ → Bool → Rings → List Filter → List Float → List Float → Frame
-frameIn m f tail r fs input store =
-    frameFrom m f tail r fs input (passesIn (r .lengths) store) (readRows f (m .lines) 0 (r .lengths) (r .lines) store)
-
--- the frame of a unit u
-abbrev pub frameOf : Model → Bool → UnitState → List Filter → List Float → List Float → Frame
-frameOf m tail u fs input store = frameIn m (u .settings .frame) tail (unitRings m u) fs input store
+-- a frame of n lines on the rings r of a store, the mix's factor k and the sum's divisor d
+unfoldable pub frameIn : ℕ → ℕ → Float → Float → Bool → Rings → List Filter → List Float → List Float → Frame
+frameIn n f k d tail r fs input store =
+    let reads = readsOf n f r store in
+    record {
+      reads = reads;
+      lines = lineRows n f k tail fs input reads;
+      output = outputRow n f d (r .passes .lengths) (r .passes .cursors) fs (passesIn (r .lines .lengths) store) reads;
+    }

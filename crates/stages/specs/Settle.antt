@@ -16,6 +16,7 @@ use Rattle.delay.specs.Ring.{write}
 use Rattle.allpass.specs.Passes.{Stage, passEnd}
 use Rattle.iir.specs.declared.Filter.{Filter}
 use Rattle.iir.specs.Nine.{finiteFilter}
+use Rattle.unit.specs.declared.Rings.{Rings}
 use Rattle.unit.specs.UnitState.{RingCursors, UnitState}
 use Rattle.unit.specs.Model.{Model}
 use Rattle.unit.specs.Sizes.{lengths}
@@ -40,9 +41,9 @@ putRows f (suc n) i ls cs rows rings store =
     write (take (getD ls i 0) store) (getD cs i (both 0) .write .0) (take f rows)
     ++ putRows f n (i + 1) ls cs (drop f rows) rings (drop (getD ls i 0) store)
 
--- R4.17, R4.18: a unit's store after the frame r
-unfoldable pub settled : Model → UnitState → Frame → List Float → List Float
-settled m u r store = putRows (u .settings .frame) (m .lines) 0 (lengths m u) (u .cursors .lines) (r .lines .put) (r .output .rings) store
+-- R4.17, R4.18: the store after a frame of n lines on the rings r, its rows put and its allpass rings `rings`
+abbrev pub settled : ℕ → ℕ → Rings → List Float → List Float → List Float → List Float
+settled n f r rows rings store = putRows f n 0 (r .lines .lengths) (r .lines .cursors) rows rings store
 
 -- R4.20: cursors of a ring of length l, f samples on. They go round a ring that is shorter than a frame more than once
 abbrev pub movedBy : ℕ → ℕ → Cursors → Cursors
@@ -63,5 +64,5 @@ allMoved f (l ∷ ls) (c ∷ cs) = movedBy f l c ∷ allMoved f ls cs
 abbrev pub moved : Model → UnitState → RingCursors
 moved m u = record {
   lines = allMoved (u .settings .frame) (lengths m u) (u .cursors .lines);
-  passes = allMoved (u .settings .frame) (m .passes) (u .cursors .passes);
+  passes = allMoved (u .settings .frame) (m .passLengths) (u .cursors .passes);
 }

@@ -106,11 +106,11 @@ unfolding ringsHold
 wall-holds u h = lengths-hold wall (u .settings) 16 0 0 (λ (i : ℕ). omega (arith, delay-range i)) h
 
 -- and its allpass rings
-pub wall-passes : passesAre wall (wall .passes) ≡ true
+pub wall-passes : passesAre wall (wall .passLengths) ≡ true
 unfolding passesAre
 wall-passes = refl
 
-pub passes-same : (ls : List ℕ) → length ls ≡ 4 → passesAre wall ls ≡ true → ls ≡ wall .passes
+pub passes-same : (ls : List ℕ) → length ls ≡ 4 → passesAre wall ls ≡ true → ls ≡ wall .passLengths
 unfolding passesAre
 passes-same [] l e = absurd (omega arith)
 passes-same (a ∷ []) l e = absurd (omega arith)

@@ -29,7 +29,7 @@ noFrame m = record {
 abbrev pub freshUnit : Model → ℕ → ℕ → UnitState
 freshUnit m rate frame = record {
   settings = record { rate = rate; frame = frame };
-  cursors = record { lines = replicate (m .lines) (both 0); passes = replicate (length (m .passes)) (both 0) };
+  cursors = record { lines = replicate (m .lines) (both 0); passes = replicate (length (m .passLengths)) (both 0) };
   count = pos 0;
   filters = replicate (filtersLen m) blank;
   held = noFrame m;

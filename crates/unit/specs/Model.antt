@@ -9,7 +9,7 @@ use Rattle.primes.specs.Table.{delayAt}
 pub record Model : Type 0 where
   pub lines : ℕ
   pub delay : ℕ → ℕ
-  pub passes : List ℕ
+  pub passLengths : List ℕ
   pub factor : Float
   pub divisor : Float
 
@@ -18,7 +18,7 @@ abbrev pub wall : Model
 wall = record {
   lines = 16;
   delay = delayAt;
-  passes = 225 ∷ 341 ∷ 341 ∷ 441 ∷ [];
+  passLengths = 225 ∷ 341 ∷ 341 ∷ 441 ∷ [];
   factor = ofBits binary32 0x3e80_0000;
   divisor = ofBits binary32 0x4180_0000;
 }

@@ -40,5 +40,5 @@ blankOpen u = not (u .held .tail) && (isZero (u .held .next) && (unmarked (u .he
 unfoldable pub inRange : Model → UnitState → Bool
 inRange m u =
     (rateOk (u .settings .rate) && frameOk (u .settings .frame))
-    && ((cursorsIn (lengths m u) (u .cursors .lines) && cursorsIn (m .passes) (u .cursors .passes))
+    && ((cursorsIn (lengths m u) (u .cursors .lines) && cursorsIn (m .passLengths) (u .cursors .passes))
     && (u .held .busy || blankOpen u))

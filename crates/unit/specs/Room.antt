@@ -15,7 +15,10 @@ use Rattle.unit.specs.Range.{cursorsIn}
 
 -- the rings of a unit, where those of its lines have the lengths ls; and as they are
 abbrev pub ringsWith : Model → UnitState → List ℕ → Rings
-ringsWith m u ls = record { lengths = ls; lines = u .cursors .lines; sizes = m .passes; passes = u .cursors .passes }
+ringsWith m u ls = record {
+  lines = record { lengths = ls; cursors = u .cursors .lines };
+  passes = record { lengths = m .passLengths; cursors = u .cursors .passes };
+}
 
 abbrev pub unitRings : Model → UnitState → Rings
 unitRings m u = ringsWith m u (lengths m u)
@@ -26,11 +29,11 @@ ringsHold f ls = allFrom (λ i l. leb f l && leb l longestRing) 0 ls
 
 -- allpass rings of the lengths ls are the model's
 unfoldable pub passesAre : Model → List ℕ → Bool
-passesAre m ls = allFrom (λ i l. eqb l (getD (m .passes) i 0)) 0 ls
+passesAre m ls = allFrom (λ i l. eqb l (getD (m .passLengths) i 0)) 0 ls
 
 -- every cursor is within its ring
 abbrev pub ringsIn : Rings → Bool
-ringsIn r = cursorsIn (r .lengths) (r .lines) && cursorsIn (r .sizes) (r .passes)
+ringsIn r = cursorsIn (r .lines .lengths) (r .lines .cursors) && cursorsIn (r .passes .lengths) (r .passes .cursors)
 
 -- R1.19, R1.21, R1.25: the lengths of the memory lent, of a store of lines' rings of the lengths ls, of the work memory and of the output
 abbrev pub lentFor : Model → ℕ → List ℕ → ℕ → ℕ → ℕ → Bool
@@ -39,4 +42,4 @@ lentFor m f ls store work output = eqb store (storeLen m ls) && (eqb work (workL
 -- all that is asked: f itself, lines' rings that hold it, the model's allpass rings, every cursor within its ring, and the memory lent
 unfoldable pub roomOk : Model → ℕ → Rings → ℕ → ℕ → ℕ → Bool
 roomOk m f r store work output =
-    frameOk f && ((ringsHold f (r .lengths) && passesAre m (r .sizes)) && (ringsIn r && lentFor m f (r .lengths) store work output))
+    frameOk f && ((ringsHold f (r .lines .lengths) && passesAre m (r .passes .lengths)) && (ringsIn r && lentFor m f (r .lines .lengths) store work output))

@@ -21,12 +21,12 @@ total (l ∷ ls) = l + total ls
 
 -- R1.19, R1.20: the store is the lines' rings, of lengths ls, one after the other, and then the allpass rings
 unfoldable pub storeLen : Model → List ℕ → ℕ
-storeLen m ls = total ls + total (m .passes)
+storeLen m ls = total ls + total (m .passLengths)
 
 -- R1.21, R1.22: the work memory is rows of F floats, one for the input, one a line read, one a line mixed and one for the output, and then
 -- the allpass rings
 unfoldable pub workLen : Model → ℕ → ℕ
-workLen m f = (m .lines + m .lines + 2) * f + total (m .passes)
+workLen m f = (m .lines + m .lines + 2) * f + total (m .passLengths)
 
 -- R1.19, R1.21: the wall unit's
 abbrev pub StoreIs : Type 0
@@ -50,7 +50,7 @@ jobsLen m = m .lines + m .lines + 2
 -- the lists of a unit of model m are as long as the model says: a `State`'s are
 pub record Sized (m : Model) (u : UnitState) : Type 0 where
   pub lines : length (u .cursors .lines) ≡ m .lines
-  pub passes : length (u .cursors .passes) ≡ length (m .passes)
+  pub passes : length (u .cursors .passes) ≡ length (m .passLengths)
   pub filters : length (u .filters) ≡ filtersLen m
   pub marks : length (u .held .marks) ≡ jobsLen m
   pub before : length (u .held .before) ≡ filtersLen m

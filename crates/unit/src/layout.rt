@@ -30,10 +30,10 @@ pub const DIVISOR: f32 = 16.0;
 pub const PASS_RINGS: usize = 4;
 
 // Their lengths.
-pub const PASSES: [usize; PASS_RINGS] = [225, 341, 341, 441];
+pub const PASS_LENGTHS: [usize; PASS_RINGS] = [225, 341, 341, 441];
 
 // All four of them: 1,348.
-pub const RINGS: usize = PASSES[0] + PASSES[1] + PASSES[2] + PASSES[3];
+pub const RINGS: usize = PASS_LENGTHS[0] + PASS_LENGTHS[1] + PASS_LENGTHS[2] + PASS_LENGTHS[3];
 
 // The delays of all lines, four in turn, and the allpass rings: what a store has beside a frame for each
 // line, 7,600.

@@ -19,8 +19,8 @@ pub use layout::MIX_MARK;
 pub use layout::MIXED_ROW;
 pub use layout::OUTPUT_MARK;
 pub use layout::OUTPUT_ROW;
+pub use layout::PASS_LENGTHS;
 pub use layout::PASS_RINGS;
-pub use layout::PASSES;
 pub use layout::PER_FILTER;
 pub use layout::RINGS;
 pub use layout::ROWS;
@@ -64,13 +64,22 @@ pub struct State {
     pub before: [Filter; FILTERS],
 }
 
-// The rings of a unit: the lengths and the cursors of the lines' rings, and the lengths (their sizes) and
-// the cursors of the allpass rings.
-pub struct Rings {
+// The rings of the lines.
+pub struct LineRings {
     pub lengths: [usize; LINES],
-    pub lines: [Cursors; LINES],
-    pub sizes: [usize; PASS_RINGS],
-    pub passes: [Cursors; PASS_RINGS],
+    pub cursors: [Cursors; LINES],
+}
+
+// The allpass rings.
+pub struct PassRings {
+    pub lengths: [usize; PASS_RINGS],
+    pub cursors: [Cursors; PASS_RINGS],
+}
+
+// The rings of a unit.
+pub struct Rings {
+    pub lines: LineRings,
+    pub passes: PassRings,
 }
 
 // The state of a unit in which nothing has sounded yet (R1.32).

@@ -3,8 +3,8 @@ use crate::State;
 use crate::layout::FILTERS;
 use crate::layout::JOBS;
 use crate::layout::LINES;
+use crate::layout::PASS_LENGTHS;
 use crate::layout::PASS_RINGS;
-use crate::layout::PASSES;
 use crate::sizes::lengths;
 use delay::Cursors;
 use iir::Filter;
@@ -29,7 +29,10 @@ pub fn in_range(s: State) -> bool
     and(
         and(rate_ok(rate), frame_ok(frame)),
         and(
-            and(cursors_in(lengths(s), lines), passes_in(PASSES, passes)),
+            and(
+                cursors_in(lengths(s), lines),
+                passes_in(PASS_LENGTHS, passes),
+            ),
             open_or_blank(s),
         ),
     )

@@ -1,9 +1,11 @@
 // The memory and the rings that a frame asks.
+use crate::LineRings;
+use crate::PassRings;
 use crate::Rings;
 use crate::State;
 use crate::layout::LINES;
+use crate::layout::PASS_LENGTHS;
 use crate::layout::PASS_RINGS;
-use crate::layout::PASSES;
 use crate::range::cursors_in;
 use crate::range::passes_in;
 use crate::sizes::is_store;
@@ -54,7 +56,7 @@ fn passes_are(ls: [usize; PASS_RINGS]) -> bool
     let mut ok = true;
     for i in 0..PASS_RINGS {
         let l = ls[i];
-        ok = and(ok, l == PASSES[i]);
+        ok = and(ok, l == PASS_LENGTHS[i]);
     }
     ok
 }
@@ -66,12 +68,15 @@ pub fn rings_of(s: State) -> Rings
 {
     let lines = s.lines;
     let passes = s.passes;
-    let lengths = lengths(s);
     Rings {
-        lengths,
-        lines,
-        sizes: PASSES,
-        passes,
+        lines: LineRings {
+            lengths: lengths(s),
+            cursors: lines,
+        },
+        passes: PassRings {
+            lengths: PASS_LENGTHS,
+            cursors: passes,
+        },
     }
 }
 
@@ -79,10 +84,10 @@ pub fn rings_of(s: State) -> Rings
 pub fn room_ok(frame: usize, rings: Rings, store: usize, work: usize, output: usize) -> bool
     ensures { λ r. ⌜ r ≡ roomOk wall frame rings store work output ⌝ }
 {
-    let ls = rings.lengths;
-    let cs = rings.lines;
-    let ps = rings.sizes;
-    let qs = rings.passes;
+    let ls = rings.lines.lengths;
+    let cs = rings.lines.cursors;
+    let ps = rings.passes.lengths;
+    let qs = rings.passes.cursors;
     let rows = and(work_ok(frame, work), output == frame);
     and(
         frame_ok(frame),

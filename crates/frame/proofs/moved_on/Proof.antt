@@ -11,7 +11,7 @@ use Rattle.frame.proofs.moved_on.Tie as tie
 returns : tie.Need-returns
 returns c =
     let a = c .before .before .before .before .before .before .args in
-    let lines = c .before .move-lines .ensures ∙ ap (λ (ls : List ℕ). allMoved (a .f) ls (a .rings .lines)) (every-line (a .rings .lengths) (search needs)) in
+    let lines = c .before .move-lines .ensures ∙ ap (λ (ls : List ℕ). allMoved (a .f) ls (a .rings .lines .cursors)) (every-line (a .rings .lines .lengths) (search needs)) in
     λ i. record { ok = a .ok; filters = a .fs; lines = lines i; passes = c .move-passes .ensures i }
 
 pub moved-on-spec : {M : Type 1} → statement M

@@ -11,10 +11,10 @@ returns : tie.Need-returns
 returns c = rw (shut _ _ (c .before .room-ok .ensures) (c .if1 .taken)) (refl, (refl, (refl, refl)))
 
 -- the lengths of all rings are handed in
-lines-long : (s : tie.Start) → length (s .args .rings .lengths) ≡ 16
+lines-long : (s : tie.Start) → length (s .args .rings .lines .lengths) ≡ 16
 lines-long s = search needs
 
-passes-long : (s : tie.Start) → length (s .args .rings .sizes) ≡ 4
+passes-long : (s : tie.Start) → length (s .args .rings .passes .lengths) ≡ 4
 passes-long s = search needs
 
 wall-frame-requires : tie.Need-wall-frame-requires

@@ -2,13 +2,9 @@
 use borrow.Author.Needs.{needs}
 use denote.Ref.{now}
 use mathlib.Core.Path.{refl, ap, _∙_}
-use mathlib.Core.Bool.{Bool, cond}
-use Rattle.unit.specs.Model.{wall}
-use Rattle.rows.specs.Rows.{Rows, rowsOf}
+use mathlib.Core.Bool.{Bool}
 use Rattle.frame.specs.Steps.{steppedOn, leftBy}
-use Rattle.frame.specs.Workers.{putInto}
 use Rattle.frame.proofs.FrameParts.{settle-fits}
-use Rattle.frame.proofs.RowsOf.{judged-rows}
 use Rattle.frame.proofs.wall_close.Statement.{statement}
 use Rattle.frame.proofs.wall_close.Tie as tie
 
@@ -19,21 +15,12 @@ moved-on-requires : tie.Need-moved-on-requires
 moved-on-requires c κs = let p = c .before .before .before .before .before .before .before .before .before .before .before .before .before .pre in (p .short, p .within)
 
 returns : tie.Need-returns
-unfolding leftBy rowsOf
+unfolding leftBy
 returns c =
     let done = c .before .before .before .before .before .before .before in
     let a = done .before .before .before .before .before .before .before .args in
     let g = done .finish-frame .ensures in
-    let w = now (a .work) in
-    let r : Rows = rowsOf wall (a .f) w in
-    let ok = judged-rows (a .f) w (a .fs) in (
-      c .moved-on .ensures
-          ∙ (λ i. steppedOn (a .f) (a .rings) ((g .0 ∙ ok) i) (a .fs)),
-      (
-        g .1 .0 ∙ ap (λ (b : Bool). cond b (putInto 16 (a .f) (a .rings) (r .mixed) (r .rings) (now (a .store))) (now (a .store))) ok,
-        (g .1 .1 .0, g .1 .1 .1 ∙ ap (λ (b : Bool). cond b (r .output) (now (a .output))) ok),
-      ),
-    )
+    (c .moved-on .ensures ∙ ap (λ (b : Bool). steppedOn (a .f) (a .rings) b (a .fs)) (g .0), g .1)
 
 pub wall-close-spec : {M : Type 1} → statement M
 wall-close-spec =

@@ -14,10 +14,11 @@ use Rattle.samples.proofs.Laws.{is-accepted, join-and, split-and, frame-of}
 use Rattle.audio_buffer.specs.declared.AudioEffectState.the-variants.{TailComplete}
 use Rattle.unit.specs.UnitState.{UnitState, ofState}
 use Rattle.unit.specs.declared.State.{State}
+use Rattle.unit.specs.declared.Rings.{Rings}
 use Rattle.unit.specs.Model.{wall}
 use Rattle.unit.specs.Range.{cursorsIn}
 use Rattle.unit.specs.Sizes.{lengths}
-use Rattle.unit.specs.Room.{ringsHold}
+use Rattle.unit.specs.Room.{ringsWith, unitRings, ringsHold}
 use Rattle.unit.proofs.Ranges.{wall-holds}
 use Rattle.samples.specs.Sizes.{rateOk, frameOk}
 use Rattle.delay.specs.Calls.{both}
@@ -41,7 +42,7 @@ use Rattle.jobs.proofs.job_read.Lts as lts
 use Rattle.jobs.proofs.steps.marked.Reads as marked-reads
 use Rattle.rows.proofs.read_line.Reads as read-line-reads
 use Rattle.unit.proofs.quiet.Reads as quiet-reads
-use Rattle.unit.proofs.lengths.Reads as lengths-reads
+use Rattle.unit.proofs.rings_of.Reads as rings-of-reads
 use Rattle.samples.proofs.is_accepted.Reads as is-accepted-reads
 use Rattle.judges.proofs.judge_read.Reads as judge-read-reads
 
@@ -58,7 +59,7 @@ returns c =
     (q .0, ap (λ (v : Memory). v .work) (q .1))
 
 -- what the judgement has let by
-module _ (p : lts.Else1 (judge-read-reads.Asked, judge-read-reads.Learnt, is-accepted-reads.Asked, is-accepted-reads.Learnt, quiet-reads.Asked, quiet-reads.Learnt, lengths-reads.Asked, lengths-reads.Learnt, read-line-reads.Asked, read-line-reads.Learnt, marked-reads.Asked, marked-reads.Learnt) reads.Pre reads.Post) where
+module _ (p : lts.Else1 (judge-read-reads.Asked, judge-read-reads.Learnt, is-accepted-reads.Asked, is-accepted-reads.Learnt, quiet-reads.Asked, quiet-reads.Learnt, rings-of-reads.Asked, rings-of-reads.Learnt, read-line-reads.Asked, read-line-reads.Learnt, marked-reads.Asked, marked-reads.Learnt) reads.Pre reads.Post) where
   abbrev u : UnitState
   u = ofState (p .before .before .before .before .before .args .s)
 
@@ -98,27 +99,21 @@ module _ (p : lts.Else1 (judge-read-reads.Asked, judge-read-reads.Learnt, is-acc
   hold : ringsHold (u .settings .frame) (lengths wall u) ≡ true
   hold = wall-holds u (frame-of _ framed .hi)
 
-  lengths-in : cond (frameOk (u .settings .frame)) (lengths wall u) (replicate 16 0) ≡ lengths wall u
-  lengths-in = rw framed refl
+  its-rings : cond (frameOk (u .settings .frame)) (unitRings wall u) (ringsWith wall u (replicate 16 0)) ≡ unitRings wall u
+  its-rings = rw framed refl
 
   room : lineRoom wall (u .settings .frame) (lengths wall u) line store work ≡ true
   room = join-and known (join-and frames (join-and hold (lent .0)))
 
-mul-c : tie.Need-mul-c
-mul-c c = omega (arith, few (c .before .before))
-
-array-copy-out-c : tie.Need-array-copy-out-c
-array-copy-out-c c = omega (arith, few (c .before .before))
-
 marked-requires : tie.Need-marked-requires
-marked-requires c κs = omega (arith, few (c .before .before .before .before .before .before .before .before))
+marked-requires c κs = omega (arith, few (c .before .before .before .before .before .before))
 
 returns-2 : tie.Need-returns-2
 returns-2 c =
     let made = c .before in
     let done = made .before .before .before in
-    let lined = done .before .before .before .before .before in
-    let passed = lined .before in
+    let lined = done .before .before in
+    let passed = lined .before .before in
     let tested = passed .before in
     let judged = tested .before in
     let a = judged .before .before .before .args in
@@ -126,10 +121,11 @@ returns-2 c =
     let w = lend (a .s) (now (a .store)) (now (a .work)) in
     let due′ = judgedRead wall v (a .line) (store passed) (work passed) in
     let e = judged .judge-read .ensures in
-    let cursors = split-and (cursorsIn (lengths wall v) (v .cursors .lines)) (cursorsIn (wall .passes) (v .cursors .passes)) (due passed .cursors) .0 in
-    let ls = lined .lengths .ensures ∙ lengths-in passed in
+    let cursors = split-and (cursorsIn (lengths wall v) (v .cursors .lines)) (cursorsIn (wall .passLengths) (v .cursors .passes)) (due passed .cursors) .0 in
+    let rings = lined .rings-of .ensures ∙ its-rings passed in
     let row = read-work v (now (a .work)) _ (room passed) (a .line) (now (a .store)) _ (few passed) (hold passed) (eqb-true _ _ (lent passed .0)) (work-fits (v .settings .frame) (work passed) (frames passed)) cursors
-    (done .read-line .ensures ∙ ap (λ (k : List ℕ). readLaid wall (v .settings .frame) k (a .line) (getD (v .cursors .lines) (a .line) (both 0)) (lineRoom wall (v .settings .frame) k (a .line) (store passed) (work passed)) (now (a .store)) (now (a .work))) ls) in
+    (done .read-line .ensures
+    ∙ ap (λ (k : Rings). readLaid wall (v .settings .frame) k (a .line) (lineRoom wall (v .settings .frame) (k .lines .lengths) (a .line) (store passed) (work passed)) (now (a .store)) (now (a .work))) rings) in
     let q = quiet-let-by due′ _ (memoryDone wall w (readJob (a .line))) w _ e (let-by _ due′ _ e (tested .is-accepted .ensures) (passed .if1 .left))
     (c .quiet2 .ensures ∙ ap (λ (s : State). outcome (judged .judge-read .result) (ofState s) TailComplete) (made .marked .ensures)) in
     (q .0, row ∙ ap (λ (x : Memory). x .work) (q .1))
@@ -143,8 +139,6 @@ job-read-spec =
     (λ c κs. search needs)
     returns
     (λ c κs. search needs)
-    mul-c
-    array-copy-out-c
     (λ c κs. search needs)
     marked-requires
     (λ c κs. search needs)

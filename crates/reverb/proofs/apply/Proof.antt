@@ -10,7 +10,8 @@ use Rattle.bands.specs.declared.Counted.{Counted}
 use Rattle.unit.specs.UnitState.{ofState}
 use Rattle.unit.specs.Model.{wall}
 use Rattle.judges.specs.Judges.{judgedApply}
-use Rattle.stages.specs.Frame.{frameOf}
+use Rattle.unit.specs.Room.{unitRings}
+use Rattle.stages.specs.Frame.{frameIn}
 use Rattle.machine.specs.Ending.{lend}
 use Rattle.machine.specs.Whole as Play
 use Rattle.machine.proofs.Ends.{ends-refused}
@@ -102,7 +103,7 @@ returns-2 c =
     let due = judgedApply wall u (a .t) (now (a .coefficients)) (now (a .input)) (length (now (a .store))) (length (now (a .work))) (length (now (a .output))) in
     let g = ran .whole-frame .ensures in
     as-call (a .s) (Play.apply (a .t) (now (a .coefficients)) (now (a .input))) due _ _ (now (a .store)) _ (now (a .work)) (now (a .output)) _ _ _ _ (through p)
-    (λ i. frameOf wall false u (filters i) (b .0 i) (now (a .store))) count (b .1) (g .0, (g .1 .0, (g .1 .1 .0, g .1 .1 .1)))
+    (λ i. frameIn (wall .lines) (u .settings .frame) (wall .factor) (wall .divisor) false (unitRings wall u) (filters i) (b .0 i) (now (a .store))) count (b .1) (g .0, (g .1 .0, (g .1 .1 .0, g .1 .1 .1)))
 
 pub apply-spec : {M : Type 1} → statement M
 apply-spec =

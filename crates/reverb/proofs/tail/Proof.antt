@@ -8,6 +8,7 @@ use Rattle.samples.specs.declared.Frames.{Frames}
 use Rattle.samples.proofs.Laws.{is-accepted}
 use Rattle.unit.specs.UnitState.{ofState}
 use Rattle.unit.specs.Model.{wall}
+use Rattle.unit.specs.Room.{unitRings}
 use Rattle.unit.proofs.Outcomes.{refused, let-by}
 use Rattle.judges.specs.Judges.{judgedTail, lentOk}
 use Rattle.judges.proofs.Fits.{due-of, room-of}
@@ -56,7 +57,7 @@ returns-2 c =
     let through = let-by _ due _ (judged .judge-tail .ensures) (tested .is-accepted .ensures) (passed .if1 .left) in
     let g = ran .whole-frame .ensures in
     as-call (a .s) Play.tail due _ _ (now (a .store)) (now (a .work)) (now (a .work)) (now (a .output)) _ _ _ _ through
-    (no-input u (u .filters) (take (a .s .frame) (now (a .work))) (inputFor u Play.tail) (now (a .store)))
+    (no-input 16 (a .s .frame) (wall .factor) (wall .divisor) (unitRings wall u) (u .filters) (take (a .s .frame) (now (a .work))) (inputFor u Play.tail) (now (a .store)))
     (ap (λ (n : Frames). n .0) (fell .fallen .ensures)) refl (g .0, (g .1 .0, (g .1 .1 .0, g .1 .1 .1)))
 
 pub tail-spec : {M : Type 1} → statement M

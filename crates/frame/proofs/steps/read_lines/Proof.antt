@@ -23,11 +23,11 @@ abbrev μ-loop : tie.MeasureT-loop
 fits : (c : tie.In-loop Inv-loop μ-loop) →
     let l = c .before .loop in
     let s = c .before .before .before .before .before .before .args in
-    (l .a + getD (s .rings .lengths) (l .i) 0 ≤ length (now (s .store))) × (l .b + s .f ≤ length (now (s .rows)))
+    (l .a + getD (s .rings .lines .lengths) (l .i) 0 ≤ length (now (s .store))) × (l .b + s .f ≤ length (now (s .rows)))
 fits c =
     let l = c .before .loop in
     let s = c .before .before .before .before .before .before .args in
-    turn-fits (s .f) (s .rings .lengths) (s .rings .lines) _ (s .n) (l .i) (l .a) (l .inv .2) (c .loop-test .taken) (l .b) _ (l .inv .0)
+    turn-fits (s .f) (s .rings .lines .lengths) (s .rings .lines .cursors) _ (s .n) (l .i) (l .a) (l .inv .2) (c .loop-test .taken) (l .b) _ (l .inv .0)
 
 loop-holds : tie.Need-loop-holds Inv-loop μ-loop
 loop-holds c =
@@ -56,14 +56,14 @@ loop-again c =
     let turn = called .before .before .before .before in
     let l = turn .before .loop in
     let s = turn .before .before .before .before .before .before in
-    read-turn (s .args .n) (s .args .f) (s .args .rings .lengths) (s .args .rings .lines) (s .pre .some) (now (s .args .store)) (l .rows) _ _ (l .i) (l .a) (l .b) _
+    read-turn (s .args .n) (s .args .f) (s .args .rings .lines .lengths) (s .args .rings .lines .cursors) (s .pre .some) (now (s .args .store)) (l .rows) _ _ (l .i) (l .a) (l .b) _
     (turn .loop-test .taken) (l .inv) (called .get .ensures .1)
 
 returns : tie.Need-returns Inv-loop μ-loop
 returns c =
     let l = c .before .loop in
     let s = c .before .before .before .before .before .before in
-    read-done (s .args .n) (s .args .f) (s .args .rings .lengths) (s .args .rings .lines) (s .pre .some) (now (s .args .store)) (l .rows) _ _ (l .i) (l .a) (l .b)
+    read-done (s .args .n) (s .args .f) (s .args .rings .lines .lengths) (s .args .rings .lines .cursors) (s .pre .some) (now (s .args .store)) (l .rows) _ _ (l .i) (l .a) (l .b)
     (c .loop-test .left) (l .inv)
 
 pub read-lines-spec : {M : Type 1} → statement M

@@ -6,6 +6,7 @@ use Prim.Native.Nat.{_+_, _*_}
 use denote.Ref.{now}
 use Rattle.search.specs.Search.{allFinite}
 use Rattle.samples.proofs.Lists.{end-is}
+use Rattle.frame.proofs.RowsOf.{judged-rows}
 use Rattle.frame.proofs.whole.frame_finite.Statement.{statement}
 use Rattle.frame.proofs.whole.frame_finite.Tie as tie
 
@@ -16,6 +17,7 @@ returns c =
     let a = c .before .before .before .before .before .args in
     let work = now (a .work) in
     c .and .ensures ∙ (λ i. fs .filters-finite .ensures i && (all .all-finite .ensures ∙ ap allFinite (end-is (a .f + a .n * a .f) work)) i)
+    ∙ judged-rows (a .n) (a .f) work (a .fs)
 
 pub frame-finite-spec : {M : Type 1} → statement M
 frame-finite-spec =

@@ -12,7 +12,7 @@ returns : tie.Need-returns
 returns c =
     let outed = c .before .before in
     let lined = outed .before .before .before .before in
-    let copied = lined .before .before .before .before .before .before in
+    let copied = lined .before .before .before .before in
     let s = copied .before .before .before .before .before in
     let a = s .args in
     frame-join (a .n) (a .f) (a .factor) (a .divisor) (a .tail) (a .rings) (a .fs) _ _ (now (a .store)) (now (a .work)) _ _ _ (s .pre) (copied .copy .ensures) (search needs) (lined .play-lines .ensures) (outed .output-row .ensures)

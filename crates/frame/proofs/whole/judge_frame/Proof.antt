@@ -2,9 +2,13 @@
 use native.Mathlib.Omega.{arith}
 use borrow.Author.Needs.{needs}
 use denote.Ref.{now}
-use mathlib.Core.Path.{_≡_, _∙_}
+use mathlib.Core.Path.{_≡_, ap, _∙_}
+use mathlib.Core.Bool.{Bool}
+use Prim.Native.Nat.{_+_, _*_, _≤_}
 use lib.ListN.{length}
-use Rattle.frame.proofs.FrameParts.{settle-fits, frame-run, cleared-as-long}
+use Rattle.frame.specs.Steps.{Left, leftBy}
+use Rattle.frame.specs.Workers.{judgedOf}
+use Rattle.frame.proofs.FrameParts.{settle-fits, ends-whole}
 use Rattle.frame.proofs.whole.judge_frame.Statement.{statement}
 use Rattle.frame.proofs.whole.judge_frame.Tie as tie
 use Rattle.frame.proofs.whole.judge_frame.Reads as reads
@@ -30,6 +34,7 @@ filters-long :
 filters-long s = search needs
 
 returns : tie.Need-returns
+unfolding leftBy
 returns c =
     let done = c .before .before .before .before .before .before in
     let rowed = done .before .before .before .before .before .before in
@@ -37,14 +42,14 @@ returns c =
     let a = s .args in
     let e = rowed .frame-rows .ensures in
     let long = filters-long s in
-    let r = frame-run (a .n) (a .f) (a .factor) (a .divisor) (a .tail) (a .rings) (a .fs) _ (now (a .store)) (now (a .work)) _ (s .pre .0) (omega (arith, s .pre .1 .1, long)) (e .0) (e .1) in
-    let rows = length (rowed .frame-rows .last .1 .1 .1 .1 .1 .1 .1 .1 .0) in
-    let g = done .finish-frame .ensures in
-    let ok = g .0 ∙ r .judged in (
-      (λ i. record { ok = ok i; filters = r .filters i }),
+    let few : length (a .fs) ≤ 3 * a .n + 3 = omega (arith, s .pre .1 .1, long) in
+    let same = rowed .frame-rows .kept .1 .1 .1 .1 .1 .1 .1 .1 .0 in
+    let whole = ends-whole (a .n) (a .f) (a .factor) (a .divisor) (a .tail) (a .rings) (a .fs) _ (now (a .store)) (now (a .work)) _ (s .pre .0) few (e .0) (e .1) same (now (a .output)) in
+    let g = done .finish-frame .ensures in (
+      ap (λ (b : Bool). record { ok = b; filters = rowed .frame-rows .result }) (g .0) ∙ ap (λ (l : Left). judgedOf (l .stepped)) whole,
       (
-        g .1 .0 ∙ r .settled _ (r .judged),
-        (cleared-as-long _ rows (length (now (a .work))) (g .1 .1 .0) (omega (arith, rowed .frame-rows .kept .1 .1 .1 .1 .1 .1 .1 .1)), g .1 .1 .1 ∙ r .given _ _ (r .judged)),
+        g .1 .0 ∙ ap (λ (l : Left). l .store) whole,
+        (g .1 .1 .0 ∙ ap (λ (l : Left). l .work) whole, g .1 .1 .1 ∙ ap (λ (l : Left). l .output) whole),
       ),
     )
 

@@ -8,7 +8,8 @@ use denote.Ref.{now}
 use Rattle.stages.proofs.RowLaws.{copied-all}
 use Rattle.samples.proofs.Turns.{lent}
 use Rattle.samples.proofs.Lists.{lent-long, end-is}
-use Rattle.frame.specs.Workers.{putInto}
+use Rattle.stages.specs.Settle.{settled}
+use Rattle.rows.specs.Rows.{rowsOf}
 use Rattle.frame.proofs.whole.settle_frame.Statement.{statement}
 use Rattle.frame.proofs.whole.settle_frame.Tie as tie
 
@@ -32,16 +33,17 @@ settle-requires c κs =
     )
 
 returns : tie.Need-returns
+unfolding rowsOf
 returns c =
-    let settled = c .before .before .before .before .before .before .before in
-    let s = settled .before .before .before .before .before .before .before in
+    let called = c .before .before .before .before .before .before .before in
+    let s = called .before .before .before .before .before .before .before in
     let a = s .args in
     let work = now (a .work) in
     let m = a .n * a .f in
     let at = a .f + m in
     let e = at + m + a .f in (
-      settled .settle .ensures
-          ∙ (λ i. putInto (a .n) (a .f) (a .rings) (lent at m work i) (end-is e work i) (now (a .store))),
+      called .settle .ensures
+          ∙ (λ i. settled (a .n) (a .f) (a .rings) (lent at m work i) (end-is e work i) (now (a .store))),
       c .before .before .copy .ensures
           ∙ copied-all (take (e - (at + m)) (drop (at + m) work)) (now (a .output)) (lent-long (at + m) work (a .f) (omega (arith, s .pre .rows)) ∙ sym (s .pre .out))
           ∙ lent (at + m) (a .f) work,

@@ -6,7 +6,7 @@ use mathlib.Core.Bool.{false}
 use mathlib.Core.List.{List}
 use Prim.Native.Nat.{ℕ}
 use lib.Ieee.{Float}
-use Rattle.delay.specs.declared.Cursors.{Cursors}
+use Rattle.unit.specs.declared.Rings.{Rings}
 use Rattle.unit.specs.Model.{wall}
 use Rattle.rows.proofs.Ways.{shut, let-in}
 use Rattle.rows.specs.Reads.{readLaid}
@@ -14,14 +14,14 @@ use Rattle.rows.proofs.ReadLaid.{line-fits}
 use Rattle.rows.proofs.reads.read_line.Statement.{statement}
 use Rattle.rows.proofs.reads.read_line.Tie as tie
 
-nothing : (f : ℕ) (ls : List ℕ) (i : ℕ) (k : Cursors) (store work : List Float) → work ≡ readLaid wall f ls i k false store work
+nothing : (f : ℕ) (v : Rings) (i : ℕ) (store work : List Float) → work ≡ readLaid wall f v i false store work
 unfolding readLaid
-nothing f ls i k store work = refl
+nothing f v i store work = refl
 
 returns : tie.Need-returns
 returns c =
-    let a = c .before .before .before .before .args in
-    rw (shut _ _ (c .before .line-room .ensures) (c .if1 .taken)) (nothing (a .f) _ (a .i) (a .c) (now (a .store)) (now (a .work)))
+    let a = c .before .before .before .before .before .args in
+    rw (shut _ _ (c .before .line-room .ensures) (c .if1 .taken)) (nothing (a .f) (a .rings) (a .i) (now (a .store)) (now (a .work)))
 
 wall-read-requires : tie.Need-wall-read-requires
 wall-read-requires c κs =

@@ -2,6 +2,7 @@
 use native.Mathlib.Omega.{arith}
 use borrow.Author.Needs.{needs}
 use denote.Ref.{now}
+use mathlib.Core.Path.{_≡_}
 use Prim.Native.Nat.{_+_, _*_, _≤_}
 use lib.ListN.{length, getD}
 use Rattle.unit.specs.Sizes.{storeLen, total}
@@ -15,25 +16,28 @@ use Rattle.rows.proofs.reads.wall_read.Lts as lts
 use Rattle.delay.proofs.get.Reads as get-reads
 use Rattle.rows.proofs.reads.line_start.Reads as line-start-reads
 
+lines-long : (s : tie.Start) → length (s .args .rings .lines .lengths) ≡ 16
+lines-long s = search needs
+
 line-start-requires : tie.Need-line-start-requires
-line-start-requires c κs = let s = c .before .before in (omega arith, omega (arith, holds-all (s .args .f) (s .args .t3) (s .pre .2)))
+line-start-requires c κs = let s = c .before .before .before .before .before in (omega arith, omega (arith, lines-long s, holds-all (s .args .f) (s .args .rings .lines .lengths) (s .pre .2)))
 
 -- line i's ring ends within the store, and its row within the work memory
 module _ (c : lts.After-line-start (line-start-reads.Asked, line-start-reads.Learnt, get-reads.Asked, get-reads.Learnt) reads.Pre reads.Post) where
   abbrev s : lts.Start (line-start-reads.Asked, line-start-reads.Learnt, get-reads.Asked, get-reads.Learnt) reads.Pre reads.Post
-  s = c .before .before .before
+  s = c .before .before .before .before .before .before
 
-  ring-ends : c .line-start .result + getD (s .args .t3) (s .args .i) 0 ≤ length (now (s .args .store))
+  ring-ends : c .line-start .result + getD (s .args .rings .lines .lengths) (s .args .i) 0 ≤ length (now (s .args .store))
   ring-ends =
-      omega (arith, c .line-start .ensures, ring-within (s .args .f) (s .args .t3) (s .args .i) (now (s .args .store)) (now (s .args .work)) (s .pre .0) (omega arith) (s .pre .2) (s .pre .3) (s .pre .1))
+      omega (arith, c .line-start .ensures, ring-within (s .args .f) (s .args .rings) (s .args .i) (now (s .args .store)) (now (s .args .work)) (s .pre .0) (lines-long s) (s .pre .2) (s .pre .3) (s .pre .1))
 
   row-room : s .args .f + s .args .i * s .args .f + s .args .f ≤ length (now (s .args .work))
-  row-room = row-within (s .args .f) (s .args .t3) (s .args .i) (now (s .args .store)) (now (s .args .work)) (s .pre .0) (omega arith) (s .pre .2) (s .pre .3) (s .pre .1)
+  row-room = row-within (s .args .f) (s .args .rings) (s .args .i) (now (s .args .store)) (now (s .args .work)) (s .pre .0) (lines-long s) (s .pre .2) (s .pre .3) (s .pre .1)
 
   -- and the store is short
   short : length (now (s .args .store)) ≤ 65536 * 16 + 1348
   unfolding storeLen total
-  short = omega (arith, s .pre .3, holds-all (s .args .f) (s .args .t3) (s .pre .2))
+  short = omega (arith, s .pre .3, lines-long s, holds-all (s .args .f) (s .args .rings .lines .lengths) (s .pre .2))
 
 add-e : tie.Need-add-e
 add-e c = omega (arith, ring-ends c)
@@ -64,12 +68,14 @@ returns c =
     let got = c .before .before in
     let d = got .before .before .before in
     let p = s d in
-    read-laid (p .args .f) (p .args .t3) (p .args .i) (now (p .args .store)) (now (p .args .work)) (p .pre .0) (omega arith) (p .pre .2) (p .pre .3) (p .pre .1) (p .args .c) _ _ (d .line-start .ensures) (search needs) (got .get .ensures .1)
+    read-laid (p .args .f) (p .args .rings) (p .args .i) (now (p .args .store)) (now (p .args .work)) (p .pre .0) (lines-long p) (p .pre .2) (p .pre .3) (p .pre .1) _ _ (d .line-start .ensures) (search needs) (got .get .ensures .1)
 
 pub wall-read-spec : {M : Type 1} → statement M
 wall-read-spec =
     tie.close
     (tie.spec
+    (λ c. search needs)
+    (λ c. search needs)
     line-start-requires
     (λ c. search needs)
     (λ c. search needs)

@@ -25,7 +25,7 @@ returns c =
     let cursors = lines .cursors-in .ensures ∙ ap (λ (ls : List ℕ). cursorsIn ls (a .lines)) (lines .before .lengths .ensures) in
     and-of (c .and4 .ensures) (and-of (both .and .ensures) (both .before .before .rate-ok .ensures) (both .before .frame-ok .ensures))
     (and-of (c .before .and3 .ensures) (and-of (held .before .and2 .ensures) cursors (passes .passes-in .ensures)) (held .open-or-blank .ensures))
-    ∙ in-range-lengths (lengths wall (ofState a)) (a .frame) (a .lines) (rateOk (a .rate)) (cursorsIn (wall .passes) (a .passes)) (a .busy || blankOpen (ofState a))
+    ∙ in-range-lengths (lengths wall (ofState a)) (a .frame) (a .lines) (rateOk (a .rate)) (cursorsIn (wall .passLengths) (a .passes)) (a .busy || blankOpen (ofState a))
 
 pub in-range-spec : {M : Type 1} → statement M
 in-range-spec =

@@ -13,7 +13,7 @@ use Rattle.unit.proofs.room.passes_are.Statement.{statement}
 use Rattle.unit.proofs.room.passes_are.Tie as tie
 
 abbrev Inv-loop : tie.InvT-loop
-Inv-loop ls ok₀ i₀ ok i = (i ≤ 4) × (ok ≡ allFrom (λ i l. eqb l (getD (wall .passes) i 0)) 0 (take i ls))
+Inv-loop ls ok₀ i₀ ok i = (i ≤ 4) × (ok ≡ allFrom (λ i l. eqb l (getD (wall .passLengths) i 0)) 0 (take i ls))
 
 abbrev μ-loop : tie.MeasureT-loop
 μ-loop ls ok₀ i₀ ok i = 4 - i

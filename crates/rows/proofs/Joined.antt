@@ -1,4 +1,4 @@
--- The work memory cut into its rows and joined again. Assumes nothing.
+-- The work memory of a frame cut into its rows and joined again. Assumes nothing.
 use Prim.Native.Nat.{ℕ, _+_, _*_}
 use mathlib.Core.Path.{_≡_, sym, ap, _∙_}
 use mathlib.Core.List.{_++_}
@@ -8,20 +8,20 @@ use lib.ListN.{length, take, drop, length-append}
 use lib.Seq.{take-at, drop-at, drop-drop}
 use Rattle.unit.specs.Model.{Model}
 use Rattle.unit.specs.Sizes.{total, workLen}
 use Rattle.rows.specs.Rows.{Rows, rowsOf, joinedRows}
 
--- rows of a frame of f as long as they are to be
-pub record Long (m : Model) (f : ℕ) (r : Rows) : Type 0 where
+-- rows of n lines and a frame of f as long as they are to be
+pub record Long (n f : ℕ) (r : Rows) : Type 0 where
   pub input : length (r .input) ≡ f
-  pub reads : length (r .reads) ≡ m .lines * f
-  pub mixed : length (r .mixed) ≡ m .lines * f
+  pub reads : length (r .reads) ≡ n * f
+  pub mixed : length (r .mixed) ≡ n * f
   pub output : length (r .output) ≡ f
 
 -- cut, they are themselves again
-pub cut-joined : (m : Model) (f : ℕ) (r : Rows) → Long m f r → rowsOf m f (joinedRows r) ≡ r
+pub cut-joined : (n f : ℕ) (r : Rows) → Long n f r → rowsOf n f (joinedRows r) ≡ r
 unfolding rowsOf joinedRows
-cut-joined m f r l =
-    let k = m .lines * f in
+cut-joined n f r l =
+    let k = n * f in
     let four = r .output ++ r .rings in
     let three = r .mixed ++ four in
     let two = r .reads ++ three in
@@ -36,7 +36,7 @@ cut-joined m f r l =
     λ i. record { input = t0 i; reads = t1 i; mixed = t2 i; output = t3 i; rings = d4 i }
 
 -- they are as long as the work memory
-pub length-joined : (m : Model) (f : ℕ) (r : Rows) → Long m f r → length (r .rings) ≡ total (m .passes) → length (joinedRows r) ≡ workLen m f
+pub length-joined : (m : Model) (f : ℕ) (r : Rows) → Long (m .lines) f r → length (r .rings) ≡ total (m .passLengths) → length (joinedRows r) ≡ workLen m f
 unfolding joinedRows workLen
 length-joined m f r l e =
     simp length-append
