@@ -15,11 +15,14 @@ pub use settings::times;
 use unit::Outcome;
 use unit::State;
 ghost use mathlib.Core.Path.{_≡_};
+ghost use lib.ListN.{length};
 ghost use Rattle.unit.specs.UnitState.{ofState};
 ghost use Rattle.machine.specs.Ending.{outcomeOf};
+ghost use Rattle.shell.specs.Settings.{workFloats};
 ghost use Rattle.shell.specs.Frames.{inputEnds, tailEnds, said};
 
-// A frame of input. The row of the output begins as +0, and a refused call leaves it (R9.5 to R9.9).
+// A frame of input. The row of the output begins as +0, and a refused call leaves it (R9.5 to R9.9). The
+// work memory is as long as such a frame asks (R9.2).
 pub fn input_frame(
     s: State,
     bytes: &[u8],
@@ -31,6 +34,7 @@ pub fn input_frame(
     ensures { λ _. ⌜ now (store .exit) ≡ inputEnds (ofState s) (now (bytes .entry)) (now (store .entry)) (now (work .entry)) .memory .store ⌝ }
     ensures { λ _. ⌜ now (work .exit) ≡ inputEnds (ofState s) (now (bytes .entry)) (now (store .entry)) (now (work .entry)) .memory .work ⌝ }
     ensures { λ _. ⌜ now (out .exit) ≡ said (inputEnds (ofState s) (now (bytes .entry)) (now (store .entry)) (now (work .entry))) ⌝ }
+    ensures { λ _. ⌜ length (now (work .entry)) ≡ workFloats ⌝ }
 {
     let mut input = [0.0f32; FRAME];
     wire::decode(bytes, &mut input);

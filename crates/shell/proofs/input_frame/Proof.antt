@@ -2,8 +2,11 @@
 use borrow.Author.Needs.{needs}
 use native.Mathlib.Omega.{arith}
 use denote.Ref.{now}
+use mathlib.Core.Path.{_≡_}
+use lib.ListN.{length}
 use Rattle.unit.specs.UnitState.{ofState}
 use Rattle.machine.specs.Whole as Play
+use Rattle.shell.specs.Settings.{workFloats}
 use Rattle.shell.proofs.Said.{frame-ends}
 use Rattle.shell.proofs.input_frame.Statement.{statement}
 use Rattle.shell.proofs.input_frame.Tie as tie
@@ -15,9 +18,11 @@ returns c =
     let timed = set-up .before in
     let read = timed .before .before in
     let a = read .before .before .before .args in
-    frame-ends (ofState (a .s)) (now (a .store)) (now (a .work)) _ _ _ _ (now (a .out)) _
+    let long : length (now (a .work)) ≡ workFloats = omega (arith, ran .before .before) in
+    let g = frame-ends (ofState (a .s)) (now (a .store)) (now (a .work)) _ _ _ _ (now (a .out)) _
     (λ i. Play.apply (timed .times .ensures i) (set-up .coefficients .ensures i) (read .decode .ensures i))
-    (omega arith) (omega arith) (ran .apply .ensures) (c .encode .ensures)
+    (omega arith) (omega arith) (ran .apply .ensures) (c .encode .ensures) in
+    (g .0, (g .1 .0, (g .1 .1 .0, (g .1 .1 .1, long))))
 
 pub input-frame-spec : {M : Type 1} → statement M
 input-frame-spec =
