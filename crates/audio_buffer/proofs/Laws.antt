@@ -15,7 +15,7 @@ use Rattle.samples.specs.declared.Answer.the-variants.{Accepted, BadLength, Bad
 use Rattle.samples.proofs.Laws.{needed, split-and}
 use Rattle.samples.proofs.Rows.{row-ends}
 use Rattle.audio_buffer.specs.Judges.{channelsOk, samplesOk, judgedBufferThen, judgedTwo, judgedChannel}
-use Rattle.audio_buffer.specs.Layout.{firstOfEach, columns, interleaved, deinterleaved, InterleavedAt, DeinterleavedAt, DeinterleavedInterleaved, InterleavedDeinterleaved}
+use Rattle.audio_buffer.specs.Layout.{firstOfEach, columns, InterleavedAt, DeinterleavedAt, DeinterleavedInterleaved, InterleavedDeinterleaved}
 
 -- ---- what a judgement tells
 

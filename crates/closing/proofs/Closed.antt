@@ -3,9 +3,7 @@ use mathlib.Core.Path.{_≡_, refl, ap, _∙_}
 use mathlib.Core.Bool.{Bool, true, false, cond}
 use mathlib.Core.List.{List}
 use lib.Ieee.{Float}
-use lib.ListN.{length, replicate}
-use Rattle.samples.specs.Sizes.{frameOk}
-use Rattle.samples.proofs.Laws.{split-and}
+use lib.ListN.{length}
 use Rattle.unit.specs.declared.State.{State}
 use Rattle.unit.specs.declared.Rings.{Rings}
 use Rattle.unit.specs.declared.Outcome.{Outcome}

@@ -18,9 +18,9 @@ use Rattle.unit.specs.Model.{Model}
 use Rattle.unit.specs.Sizes.{lengths, filtersLen, jobsLen, storeLen, workLen, coefficientsLen}
 use Rattle.unit.specs.Range.{inRange, cursorsIn}
 use Rattle.judges.specs.Judges.{judged, storeOk, workOk, lentOk, givenOk, judgedGiven}
-use Rattle.stages.specs.Frame.{Frame, lineRows}
+use Rattle.stages.specs.Frame.{Frame}
 use Rattle.stages.proofs.RowLaws.{length-filtersOf}
-use Rattle.machine.specs.Whole.{Play, apply, tail, isTail, filtersFor, inputFor, countFor, frameFor, wholeDue}
+use Rattle.machine.specs.Whole.{Play, apply, tail, isTail, filtersFor, inputFor, countFor, wholeDue}
 use Rattle.machine.specs.Jobs.{memoryOpened}
 use Rattle.machine.specs.Ending.{Memory}
 use Rattle.machine.specs.Calls.{ending, start, answer, after}

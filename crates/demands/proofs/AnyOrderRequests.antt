@@ -7,30 +7,20 @@ use mathlib.Core.Logic.{_⊎_, inl, inr}
 use native.Mathlib.Omega.{arith}
 use borrow.Author.Tests.{ltb-true}
 use lib.Ieee.{Float}
-use lib.IntN.{pos}
-use lib.ListN.{length, set, replicate}
-use Rattle.samples.specs.declared.Answer.{Answer}
-use Rattle.samples.specs.declared.Answer.the-variants.{Accepted, BadState, BadSize, BadLength, BadIndex, OutOfTurn, BadTime, BadCoefficient, BadSample, NotFinite}
-use Rattle.samples.specs.Answers.{need, accept, accepted, orElse}
-use Rattle.samples.specs.Binary32.{+0}
+use lib.ListN.{set}
+use Rattle.samples.specs.declared.Answer.the-variants.{Accepted}
+use Rattle.samples.specs.Answers.{accepted}
 use Rattle.samples.proofs.Laws.{split-and, is-accepted, accept-no}
 use Rattle.unit.specs.Model.{Model}
-use Rattle.judges.specs.Judges.{judgedFresh, judgedReset}
-use Rattle.stages.specs.Frame.{newFilters}
-use Rattle.machine.specs.Whole.{counted, movedOn, Play, countFor, frameFor, wholeDue, atOnce}
 use Rattle.judges.specs.Marks.{mixMark, lineMark, outputMark, allRead}
-use Rattle.rows.specs.Rows.{rowsOf}
-use Rattle.judges.specs.Turns.{judgedClose}
-use Rattle.frame.specs.Parts.{rowsFinite}
-use Rattle.unit.specs.Sizes.{lengths}
-use Rattle.machine.specs.Jobs.{unitClosed, unitShut, Job, readJob, mixJob, lineJob, outputJob, markOf, closed}
+use Rattle.machine.specs.Jobs.{Job, readJob, mixJob, lineJob, outputJob, markOf}
 use Rattle.machine.specs.Ending.{Memory, Ending}
-use Rattle.machine.specs.Calls.{ending, Call, reset, whole, start, job, close, abandon, answer, after}
+use Rattle.machine.specs.Calls.{ending, Call, job, answer, after}
 use Rattle.machine.specs.Requests.{Slice, own, other, lent, left, Request, fresh, ask, seen, refusal, answerOf, request, requests}
 use Rattle.demands.specs.AnyOrder.{OwnJob, own-job, Between}
 use Rattle.demands.proofs.Lent.{told, not-is}
 use Rattle.demands.proofs.Refused.{refusal-changes-nothing, refused-fresh}
-use Rattle.demands.proofs.AnyOrderMarks.{at, true≢false, Legal, legal-set}
+use Rattle.demands.proofs.AnyOrderMarks.{at, Legal, legal-set}
 use Rattle.demands.proofs.AnyOrderAt.{Opening, Fit, unitWith, memoryAt}
 use Rattle.demands.proofs.AnyOrderJobs.{read-filters, read-work, mix-filters, mix-work, line-filters, line-work, output-filters, output-work}
 

@@ -1,26 +1,20 @@
 -- Demands 2 and 3 from an accepted fresh on, and that a frame given up leaves the unit of before its open. Assumes nothing.
 use mathlib.Core.Path.{_≡_, refl, sym, ap, _∙_}
-use mathlib.Core.Bool.{true, false}
+use mathlib.Core.Bool.{true}
 use mathlib.Core.List.{List, [], _∷_}
 use mathlib.Core.Logic.{_⊎_, inl, inr}
-use lib.Ieee.{Float}
-use lib.IntN.{ℤ}
-use Rattle.samples.specs.declared.Answer.the-variants.{Accepted, NotFinite}
 use Rattle.samples.proofs.Laws.{accept-either}
-use Rattle.iir.specs.declared.Filter.{Filter}
-use Rattle.unit.specs.UnitState.{Settings, RingCursors, UnitState}
 use Rattle.unit.specs.Model.{Model, wall}
 use Rattle.unit.specs.Fresh.{noFrame}
 use Rattle.machine.specs.Ending.{Memory, Ending}
-use Rattle.machine.specs.Whole.{Play}
-use Rattle.machine.specs.Jobs.{Job, unitShut}
-use Rattle.machine.specs.Calls.{reset, start, job, close, abandon, ending, answer, after}
+use Rattle.machine.specs.Jobs.{Job}
+use Rattle.machine.specs.Calls.{reset, job, close, ending, answer, after}
 use Rattle.machine.specs.Requests.{Slice, Request, ask, seen, back, answerOf, refusal, request, requests}
-use Rattle.demands.specs.AnyOrder.{Begins, worked}
+use Rattle.demands.specs.AnyOrder.{Begins}
 use Rattle.demands.specs.LineLaw.{by-reset}
 use Rattle.demands.specs.Refusals.{givenBack}
 use Rattle.demands.specs.FromFresh.{Built, Reached, FromFresh, from-fresh, AnyOrderFromFresh, CloseFromFresh, LineLawFromFresh}
-use Rattle.demands.specs.FromFresh.{AnyJob, any-job, Worked, afterOpen, GivesUp, FrameGivenUp, FrameGivenUpFromFresh}
+use Rattle.demands.specs.FromFresh.{AnyJob, any-job, Worked, afterOpen, FrameGivenUp, FrameGivenUpFromFresh}
 use Rattle.demands.proofs.Refused.{failure-gives-back, abandon-gives-back}
 use Rattle.demands.proofs.AnyOrderBlank.{idle}
 use Rattle.demands.proofs.AnyOrderOpen.{opened-told}

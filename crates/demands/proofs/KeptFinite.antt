@@ -5,10 +5,7 @@ use mathlib.Core.Bool.{Bool, true, false, cond}
 use mathlib.Core.List.{List, [], _∷_}
 use lib.Ieee.{Float, ofBits}
 use lib.ListN.{length, getD, take, drop, replicate}
-use Rattle.samples.specs.declared.Answer.{Answer}
-use Rattle.samples.specs.declared.Answer.the-variants.{Accepted, NotFinite}
-use Rattle.samples.specs.Answers.{accept}
-use Rattle.samples.specs.Binary32.{+0, finite}
+use Rattle.samples.specs.Binary32.{finite}
 use Rattle.samples.specs.Lists.{allFrom}
 use Rattle.search.specs.Search.{allFinite}
 use Rattle.samples.proofs.Laws.{split-and, join-and}
@@ -22,7 +19,7 @@ use Rattle.iir.specs.Nine.{nine, finiteFilter}
 use Rattle.unit.specs.UnitState.{UnitState}
 use Rattle.unit.specs.Model.{Model}
 use Rattle.unit.specs.Sizes.{filtersLen}
-use Rattle.unit.specs.Fresh.{blank, freshUnit}
+use Rattle.unit.specs.Fresh.{blank}
 use Rattle.judges.specs.Judges.{judgedFresh}
 use Rattle.stages.specs.Frame.{Frame, newFilters}
 use Rattle.stages.specs.Settle.{filtersFinite, frameFinite, putRows}

@@ -13,9 +13,7 @@ use lib.IntN.{pos}
 use lib.Ieee.{Float, ofBits}
 use lib.ListN.{length, getD, drop, replicate, length-append, length-replicate, length-set}
 use lib.Seq.{drop-drop, getD-drop}
-use Rattle.samples.specs.declared.Answer.{Answer}
 use Rattle.samples.specs.declared.Answer.the-variants.{Accepted}
-use Rattle.samples.specs.Answers.{accept}
 use Rattle.samples.specs.Binary32.{plusZero}
 use Rattle.samples.specs.Lists.{allFrom}
 use Rattle.samples.specs.Sizes.{rateOk, frameOk}
@@ -23,11 +21,10 @@ use Rattle.samples.proofs.Laws.{split-and, join-and, accept-either, needed, fra
 use Rattle.samples.proofs.Lists.{over-length}
 use Rattle.delay.specs.Calls.{both}
 use Rattle.hadamard.specs.Rows.{mixedRows}
-use Rattle.iir.specs.declared.Filter.{Filter}
 use Rattle.iir.specs.Nine.{nine}
-use Rattle.unit.specs.UnitState.{Settings, RingCursors, UnitState}
+use Rattle.unit.specs.UnitState.{Settings, UnitState}
 use Rattle.unit.specs.Model.{Model}
-use Rattle.unit.specs.Sizes.{lengthsFrom, lengths, filtersLen, jobsLen, Sized}
+use Rattle.unit.specs.Sizes.{lengthsFrom, lengths, filtersLen, jobsLen}
 use Rattle.unit.specs.Fresh.{blank, noFrame, freshUnit}
 use Rattle.unit.specs.Range.{below, cursorsIn, unmarked, blankFilters, blankOpen, inRange}
 use Rattle.judges.specs.Judges.{judgedFresh}
@@ -48,7 +45,6 @@ use Rattle.demands.specs.FromFresh.{Built, Reached, StaysInRange}
 use Rattle.demands.proofs.Lent.{told, job-busy, whole-lent}
 use Rattle.demands.proofs.LineRings.{length-moved}
 use Rattle.demands.proofs.AnyOrderMarks.{true≢false}
-use Rattle.demands.proofs.AnyOrderOpen.{opened-told}
 
 -- ---- cursors of rings that have a length: those of a fresh unit are in them
 

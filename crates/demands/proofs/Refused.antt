@@ -8,8 +8,8 @@ use lib.Ieee.{Float}
 use lib.ListN.{length}
 use Rattle.samples.specs.declared.Answer.{Answer}
 use Rattle.samples.specs.declared.Answer.the-variants.{Accepted, BadState, BadSize, BadLength, BadIndex, OutOfTurn, BadTime, BadCoefficient, BadSample, NotFinite}
-use Rattle.samples.specs.Answers.{numberOf, accept, accepted, need, orElse}
-use Rattle.samples.proofs.Laws.{accept-no, accept-yes, accept-either}
+use Rattle.samples.specs.Answers.{numberOf, accepted, need, orElse}
+use Rattle.samples.proofs.Laws.{accept-no, accept-either}
 use Rattle.search.specs.declared.Found.{Found}
 use Rattle.search.specs.declared.Found.the-variants.{At, Nothing}
 use Rattle.search.specs.Search.{firstBad, allFinite}
@@ -17,17 +17,16 @@ use Rattle.bands.specs.declared.Times.{Times}
 use Rattle.bands.specs.Times.{timesOk}
 use Rattle.unit.specs.UnitState.{UnitState}
 use Rattle.unit.specs.Model.{Model}
-use Rattle.unit.specs.Fresh.{freshUnit}
 use Rattle.unit.specs.Range.{inRange}
 use Rattle.judges.specs.Judges.{judged, judgedGiven, badInput, judgedFresh, givenOk, lentOk, storeOk, workOk}
-use Rattle.machine.specs.Ending.{Memory, Ending, refused, quietly, cleared}
+use Rattle.machine.specs.Ending.{Memory, Ending, refused, quietly}
 use Rattle.machine.specs.Whole.{Play, apply, tail, wholeDue}
-use Rattle.machine.specs.Jobs.{Job, readJob, mixJob, lineJob, outputJob, openDue, jobDue, memoryShut}
-use Rattle.machine.specs.Calls.{Call, reset, whole, start, job, close, abandon, ending, answer}
+use Rattle.machine.specs.Jobs.{Job, readJob, mixJob, lineJob, outputJob, openDue, jobDue}
+use Rattle.machine.specs.Calls.{reset, whole, start, job, close, abandon, ending, answer}
 use Rattle.machine.specs.Requests.{refusal}
 use Rattle.machine.proofs.Cases.{whole-either, close-either}
-use Rattle.demands.specs.Refusals.{outputOf, RefusalChangesNothing, RefusedFresh, givenBack, FailureGivesBack, AbandonGivesBack}
-use Rattle.demands.proofs.Lent.{told, whole-lent, close-lent, not-is}
+use Rattle.demands.specs.Refusals.{RefusalChangesNothing, RefusedFresh, givenBack, FailureGivesBack, AbandonGivesBack}
+use Rattle.demands.proofs.Lent.{told, whole-lent, close-lent}
 use Rattle.demands.proofs.AnyOrderMarks.{true≢false}
 
 -- ---- 1 to 8

@@ -5,17 +5,15 @@ use mathlib.Core.Bool.{Bool, true, false}
 use mathlib.Core.List.{List, []}
 use lib.Ieee.{Float}
 use Rattle.samples.specs.declared.Answer.{Answer}
-use Rattle.samples.specs.declared.Answer.the-variants.{Accepted, NotFinite}
 use Rattle.samples.specs.Answers.{accept, accepted}
 use Rattle.samples.proofs.Laws.{is-accepted, accept-no}
 use Rattle.unit.specs.declared.Outcome.{Outcome}
 use Rattle.unit.specs.Model.{wall}
 use Rattle.unit.specs.Fresh.{freshUnit}
 use Rattle.machine.specs.Ending.{Memory, Ending, outcomeOf, refused, quietly}
-use Rattle.machine.specs.Whole.{begun}
-use Rattle.machine.specs.Calls.{Call, ending}
+use Rattle.machine.specs.Calls.{ending}
 use Rattle.machine.specs.Requests.{refusal}
-use Rattle.demands.specs.Refusals.{outputOf, givenBack}
+use Rattle.demands.specs.Refusals.{outputOf}
 use Rattle.demands.specs.Contracts.{leaving, Function, EndsAsCall, RefusedLeaves, FailedGivesBack}
 use Rattle.demands.specs.TheCalls.{asReset, asApply, asTail, asOpenApply, asOpenTail, asJobRead, asJobMix, asJobLine, asJobOutput, asClose, asAbandon}
 use Rattle.demands.specs.TheCalls.{EachCall, CallsEnd, RefusedCalls, FailedCalls, AbandonedCall, FreshEnds, RefusedFreshCall}

@@ -10,10 +10,8 @@ use Rattle.delay.proofs.Laws.{accept-either}
 use Rattle.unit.specs.UnitState.{UnitState}
 use Rattle.unit.specs.Model.{Model}
 use Rattle.unit.specs.Fresh.{freshUnit}
-use Rattle.judges.specs.Judges.{judgedFresh, judgedReset}
+use Rattle.judges.specs.Judges.{judgedFresh}
 use Rattle.stages.specs.Settle.{allMoved}
-use Rattle.rows.specs.Rows.{rowsOf}
-use Rattle.judges.specs.Turns.{judgedClose}
 use Rattle.unit.specs.Sizes.{lengths}
 use Rattle.machine.specs.Ending.{Memory, Ending}
 use Rattle.machine.proofs.Cases.{whole-either, close-either}

@@ -8,7 +8,7 @@ use lib.Ieee.{Float}
 use Rattle.samples.specs.declared.Answer.the-variants.{Accepted, NotFinite}
 use Rattle.unit.specs.Model.{Model}
 use Rattle.unit.specs.Fresh.{freshUnit}
-use Rattle.machine.specs.Ending.{Memory, Ending, refused}
+use Rattle.machine.specs.Ending.{Memory, refused}
 use Rattle.machine.specs.Whole.{begun, wiped}
 use Rattle.machine.specs.Jobs.{memoryShut}
 use Rattle.machine.specs.Calls.{Call, reset, whole, start, job, close, abandon, ending, answer}

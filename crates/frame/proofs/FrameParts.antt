@@ -1,5 +1,5 @@
 -- A frame that lies in the work memory: what its rows say of it, and what is left then. Assumes nothing.
-use mathlib.Core.Path.{_≡_, refl, sym, ap, _∙_}
+use mathlib.Core.Path.{_≡_, refl, ap, _∙_}
 use mathlib.Core.Bool.{Bool, cond}
 use mathlib.Core.List.{List, _++_, append-nil}
 use Prim.Native.Nat.{ℕ, _+_, _*_, _≤_}
@@ -14,10 +14,10 @@ use Rattle.stages.specs.Frame.{Frame, newFilters, passesIn, frameIn}
 use Rattle.stages.specs.Settle.{frameFinite, settled}
 use Rattle.stages.proofs.RowLaws.{length-readRows}
 use Rattle.stages.proofs.FrameLaws.{put-beside, out-long}
-use Rattle.rows.specs.Rows.{Rows, rowsOf, joinedRows}
-use Rattle.rows.proofs.Joined.{Long, cut-joined}
+use Rattle.rows.specs.Rows.{rowsOf, joinedRows}
+use Rattle.rows.proofs.Joined.{cut-joined}
 use Rattle.frame.specs.Parts.{rowsFinite}
-use Rattle.frame.specs.Steps.{Left, steppedOn, leftBy, rowsIn, ranWithRoom, finishedWithRoom}
+use Rattle.frame.specs.Steps.{steppedOn, leftBy, rowsIn, ranWithRoom, finishedWithRoom}
 use Rattle.frame.specs.Workers.{FrameFits, SettleFits}
 use Rattle.frame.proofs.LineLaws.{lines-held}
 

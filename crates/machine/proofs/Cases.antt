@@ -5,7 +5,7 @@ use mathlib.Core.List.{List}
 use lib.Ieee.{Float}
 use lib.ListN.{length}
 use Rattle.samples.specs.declared.Answer.the-variants.{Accepted, NotFinite}
-use Rattle.samples.specs.Answers.{accept, accepted}
+use Rattle.samples.specs.Answers.{accepted}
 use Rattle.samples.proofs.Laws.{accept-either}
 use Rattle.unit.specs.Model.{Model}
 use Rattle.judges.specs.Turns.{judgedClose}

@@ -1,5 +1,5 @@
 -- All calls that are given a state, as one.
-use mathlib.Core.List.{List, []}
+use mathlib.Core.List.{List}
 use lib.Ieee.{Float}
 use Rattle.samples.specs.declared.Answer.{Answer}
 use Rattle.unit.specs.Model.{Model}

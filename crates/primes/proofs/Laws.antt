@@ -21,7 +21,7 @@ use Rattle.bands.specs.Times.{timeOk}
 use Rattle.bands.proofs.Bounds.{Upto, held, whole-exact, value-upto, mul-upto, div-upto, whole-upto}
 use Rattle.bands.proofs.Tail.{time-upto}
 use Rattle.primes.specs.declared.Value.{Value}
-use Rattle.primes.specs.Values.{valued, delayMin, MinRange, valueFrom, valuesFrom, judgedTime, judgedIndex, judgedPower, judgedMin, judgedValue, judgedValues}
+use Rattle.primes.specs.Values.{valued, MinRange, valueFrom, valuesFrom, judgedTime, judgedIndex, judgedPower, judgedMin, judgedValue, judgedValues}
 
 -- ---- the two ways out of a call that gives a value
 

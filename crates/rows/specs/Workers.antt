@@ -1,5 +1,5 @@
 -- What private workers cite: what they ask of a work memory, and the filters of four lines.
-use Prim.Native.Nat.{ℕ, _+_, _*_, _%_, _<_, _≤_}
+use Prim.Native.Nat.{ℕ, _+_, _%_, _<_, _≤_}
 use mathlib.Core.Path.{_≡_}
 use mathlib.Core.List.{List, [], _∷_, _++_}
 use Rattle.samples.specs.Sizes.{longestFrame}

@@ -1,21 +1,14 @@
 -- A unit of the program stays in range, whatever is played. Assumes nothing.
-use mathlib.Core.Path.{_≡_, refl, sym, ap, _∙_}
-use mathlib.Core.Bool.{Bool, true}
+use mathlib.Core.Path.{_≡_, refl}
+use mathlib.Core.Bool.{true}
 use mathlib.Core.List.{List, [], _∷_}
-use Prim.Native.Nat.{ℕ, suc, _+_, _<_}
-use native.Mathlib.Nat.{add-zero, add-suc, suc-add, zero-add, mod-lt}
-use native.Mathlib.Omega.{arith}
 use lib.Ieee.{Float, ofBits}
-use lib.ListN.{getD}
-use borrow.Author.Tests.{ltb-true, lt-ltb}
 use Rattle.samples.specs.declared.Answer.the-variants.{Accepted}
 use Rattle.samples.specs.Binary32.{plusZero}
-use Rattle.samples.specs.Lists.{allFrom}
 use Rattle.samples.specs.Sizes.{rateOk, frameOk}
-use Rattle.samples.proofs.Laws.{split-and, join-and, accept-either}
-use Rattle.delay.specs.declared.Cursors.{Cursors}
+use Rattle.samples.proofs.Laws.{accept-either}
 use Rattle.iir.specs.Nine.{nine}
-use Rattle.unit.specs.UnitState.{Settings, UnitState}
+use Rattle.unit.specs.UnitState.{UnitState}
 use Rattle.unit.specs.Model.{wall}
 use Rattle.unit.specs.Fresh.{noFrame, freshUnit}
 use Rattle.unit.specs.Sizes.{lengthsFrom, lengths, total, storeLen, workLen}
@@ -23,7 +16,6 @@ use Rattle.unit.specs.Range.{below, cursorsIn, unmarked, blankFilters, blankOpe
 use Rattle.judges.specs.Judges.{judged}
 use Rattle.stages.specs.Frame.{newFilters}
 use Rattle.stages.proofs.Within.{cursors-moved}
-use Rattle.stages.specs.Settle.{movedBy, allMoved}
 use Rattle.machine.specs.Whole as Play
 use Rattle.machine.specs.Whole.{Play, frameFor, countFor, movedOn}
 use Rattle.shell.specs.Settings.{frame, rate}

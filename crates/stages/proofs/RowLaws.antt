@@ -17,7 +17,7 @@ use Rattle.iir.specs.declared.Filter.{Filter}
 use Rattle.iir.specs.Runs.{runOut, bandsOut}
 use Rattle.iir.proofs.Laws.{run-length}
 use Rattle.unit.specs.Sizes.{total}
-use Rattle.stages.specs.Lines.{noFilter, filtersOf, readRows, bandRows, three, bandEnds, plus, addRows, sumRows}
+use Rattle.stages.specs.Lines.{noFilter, filtersOf, readRows, bandRows, three, bandEnds, plus, addRows}
 use Rattle.stages.specs.Settle.{putRows}
 use Rattle.stages.specs.Steps.{addedFirst, copied}
 

@@ -1,7 +1,6 @@
 -- `closing::close` meets its contract. Assumes nothing.
 use borrow.Author.Needs.{needs}
 use denote.Ref.{now}
-use mathlib.Core.Path.{_∙_}
 use mathlib.Core.Bool.{_&&_, true}
 use lib.ListN.{length}
 use Rattle.samples.proofs.Laws.{is-accepted}

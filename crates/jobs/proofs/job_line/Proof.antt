@@ -14,7 +14,6 @@ use Rattle.samples.proofs.Laws.{is-accepted, join-and}
 use Rattle.audio_buffer.specs.declared.AudioEffectState.the-variants.{TailComplete}
 use Rattle.iir.specs.declared.Filter.{Filter}
 use Rattle.unit.specs.UnitState.{UnitState, ofState}
-use Rattle.unit.specs.declared.State.{State}
 use Rattle.unit.specs.Model.{wall}
 use Rattle.judges.specs.Judges.{workOk}
 use Rattle.judges.specs.Marks.{mixMark, lineMark, marked}

@@ -1,13 +1,13 @@
 -- `jobs::job_mix` meets its contract. Assumes nothing.
 use borrow.Author.Needs.{needs}
 use denote.Ref.{now}
-use mathlib.Core.Path.{_≡_, ap, _∙_}
+use mathlib.Core.Path.{ap, _∙_}
 use mathlib.Core.Bool.{true, not, _&&_}
-use mathlib.Core.List.{List, []}
+use mathlib.Core.List.{[]}
 use lib.ListN.{length}
 use Rattle.samples.proofs.Laws.{is-accepted}
 use Rattle.audio_buffer.specs.declared.AudioEffectState.the-variants.{TailComplete}
-use Rattle.unit.specs.UnitState.{UnitState, ofState}
+use Rattle.unit.specs.UnitState.{ofState}
 use Rattle.unit.specs.declared.State.{State}
 use Rattle.unit.specs.Model.{wall}
 use Rattle.judges.specs.Judges.{workOk}
@@ -18,7 +18,7 @@ use Rattle.unit.specs.Outcome.{outcome}
 use Rattle.judges.proofs.Fits.{due-of}
 use Rattle.unit.proofs.Outcomes.{refused, let-by}
 use Rattle.machine.specs.Ending.{Memory, lend}
-use Rattle.machine.specs.Jobs.{mixJob, unitMarked, memoryDone}
+use Rattle.machine.specs.Jobs.{mixJob, memoryDone}
 use Rattle.machine.proofs.Ends.{quiet-refused, quiet-let-by}
 use Rattle.jobs.proofs.Laid.{work-for}
 use Rattle.jobs.proofs.job_mix.Statement.{statement}

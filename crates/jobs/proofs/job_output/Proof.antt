@@ -1,7 +1,7 @@
 -- `jobs::job_output` meets its contract. Assumes nothing.
 use borrow.Author.Needs.{needs}
 use denote.Ref.{now}
-use mathlib.Core.Path.{_≡_, ap, _∙_}
+use mathlib.Core.Path.{ap, _∙_}
 use mathlib.Core.Bool.{true, not, _&&_}
 use mathlib.Core.List.{List, []}
 use lib.ListN.{length}
@@ -9,7 +9,6 @@ use Rattle.samples.proofs.Laws.{is-accepted}
 use Rattle.audio_buffer.specs.declared.AudioEffectState.the-variants.{TailComplete}
 use Rattle.iir.specs.declared.Filter.{Filter}
 use Rattle.unit.specs.UnitState.{UnitState, ofState}
-use Rattle.unit.specs.declared.State.{State}
 use Rattle.unit.specs.Model.{wall}
 use Rattle.judges.specs.Judges.{workOk}
 use Rattle.judges.specs.Marks.{outputMark, marked, allRead}

@@ -5,10 +5,9 @@ use borrow.Author.Tests.{ltb-true, eqb-true}
 use denote.Ref.{now}
 use mathlib.Core.Path.{_≡_, refl, ap, _∙_}
 use mathlib.Core.Bool.{Bool, true, not, _&&_, cond}
-use mathlib.Core.List.{List}
 use Prim.Native.Nat.{ℕ, _<_}
 use lib.Dec.{ltb}
-use lib.ListN.{length, getD, replicate}
+use lib.ListN.{length, replicate}
 use Rattle.samples.specs.declared.Answer.the-variants.{Accepted}
 use Rattle.samples.proofs.Laws.{is-accepted, join-and, split-and, frame-of}
 use Rattle.audio_buffer.specs.declared.AudioEffectState.the-variants.{TailComplete}
@@ -21,7 +20,6 @@ use Rattle.unit.specs.Sizes.{lengths}
 use Rattle.unit.specs.Room.{ringsWith, unitRings, ringsHold}
 use Rattle.unit.proofs.Ranges.{wall-holds}
 use Rattle.samples.specs.Sizes.{rateOk, frameOk}
-use Rattle.delay.specs.Calls.{both}
 use Rattle.judges.specs.Judges.{storeOk, workOk}
 use Rattle.judges.specs.Marks.{marked}
 use Rattle.judges.specs.Turns.{judgedRead}
@@ -32,7 +30,7 @@ use Rattle.unit.specs.Outcome.{outcome}
 use Rattle.judges.proofs.Fits.{Due, due-of}
 use Rattle.unit.proofs.Outcomes.{refused, let-by}
 use Rattle.machine.specs.Ending.{Memory, lend}
-use Rattle.machine.specs.Jobs.{readJob, unitMarked, memoryDone}
+use Rattle.machine.specs.Jobs.{readJob, memoryDone}
 use Rattle.machine.proofs.Ends.{quiet-refused, quiet-let-by}
 use Rattle.jobs.proofs.Laid.{work-for, line-of, read-work}
 use Rattle.jobs.proofs.job_read.Statement.{statement}

@@ -5,13 +5,6 @@ use lib.ListN.{length}
 use borrow.Author.Needs.{needs}
 use Rattle.orders.proofs.begin.Statement.{statement}
 use Rattle.orders.proofs.begin.Tie as tie
-use Rattle.orders.proofs.begin.Reads as reads
-use Rattle.orders.proofs.begin.Lts as lts
-use Rattle.orders.proofs.coefficients.Reads as coefficients-reads
-use Rattle.orders.proofs.ramp.Reads as ramp-reads
-use Rattle.orders.proofs.times.Reads as times-reads
-use Rattle.reverb.proofs.apply.Reads as apply-reads
-use Rattle.reverb.proofs.fresh.Reads as fresh-reads
 
 abbrev Inv-loop : tie.InvT-loop
 Inv-loop store₀ work₀ state₀ output₀ cs input counter₀ store work state output counter = (length store ≡ length store₀) × (length work ≡ length work₀) × (length output ≡ 128) × (counter ≤ 5)

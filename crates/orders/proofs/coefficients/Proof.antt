@@ -5,8 +5,6 @@ use lib.ListN.{length}
 use borrow.Author.Needs.{needs}
 use Rattle.orders.proofs.coefficients.Statement.{statement}
 use Rattle.orders.proofs.coefficients.Tie as tie
-use Rattle.orders.proofs.coefficients.Reads as reads
-use Rattle.orders.proofs.coefficients.Lts as lts
 
 abbrev Inv-loop : tie.InvT-loop
 Inv-loop cs₀ gain₀ i₀ cs gain i = (length cs ≡ 255) × (i ≤ 51)

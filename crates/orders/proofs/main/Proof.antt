@@ -3,14 +3,6 @@ use Prim.Native.Nat.{_-_, _≤_}
 use borrow.Author.Needs.{needs}
 use Rattle.orders.proofs.main.Statement.{statement}
 use Rattle.orders.proofs.main.Tie as tie
-use Rattle.orders.proofs.main.Reads as reads
-use Rattle.orders.proofs.main.Lts as lts
-use Rattle.orders.proofs.begin.Reads as begin-reads
-use Rattle.orders.proofs.coefficients.Reads as coefficients-reads
-use Rattle.orders.proofs.compare.Reads as compare-reads
-use Rattle.orders.proofs.ramp.Reads as ramp-reads
-use Rattle.orders.proofs.times.Reads as times-reads
-use Rattle.reverb.proofs.apply.Reads as apply-reads
 
 abbrev Inv-loop : tie.InvT-loop
 Inv-loop store output whole order₀ order = order ≤ 3

@@ -5,10 +5,6 @@ use lib.ListN.{length}
 use borrow.Author.Needs.{needs}
 use Rattle.orders.proofs.play.Statement.{statement}
 use Rattle.orders.proofs.play.Tie as tie
-use Rattle.orders.proofs.play.Reads as reads
-use Rattle.orders.proofs.play.Lts as lts
-use Rattle.orders.proofs.step.Reads as step-reads
-use Rattle.orders.proofs.turn.Reads as turn-reads
 
 abbrev Inv-loop : tie.InvT-loop
 Inv-loop order store₀ work₀ output₀ going₀ n₀ store work output going n = (length store ≡ length store₀) × (length work ≡ length work₀) × (length output ≡ length output₀) × (n ≤ 34)

@@ -5,8 +5,6 @@ use lib.ListN.{length}
 use borrow.Author.Needs.{needs}
 use Rattle.orders.proofs.ramp.Statement.{statement}
 use Rattle.orders.proofs.ramp.Tie as tie
-use Rattle.orders.proofs.ramp.Reads as reads
-use Rattle.orders.proofs.ramp.Lts as lts
 
 abbrev Inv-loop : tie.InvT-loop
 Inv-loop start row₀ x₀ i₀ row x i = (length row ≡ 128) × (i ≤ 128)

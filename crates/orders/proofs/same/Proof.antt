@@ -5,9 +5,6 @@ use lib.ListN.{length}
 use borrow.Author.Needs.{needs}
 use Rattle.orders.proofs.same.Statement.{statement}
 use Rattle.orders.proofs.same.Tie as tie
-use Rattle.orders.proofs.same.Reads as reads
-use Rattle.orders.proofs.same.Lts as lts
-use Rattle.wire.proofs.bits.Reads as bits-reads
 
 abbrev Inv-loop : tie.InvT-loop
 Inv-loop xs ys i₀ i-end i = (i ≤ i-end) × (i-end ≡ length xs) × (length xs ≡ length ys)

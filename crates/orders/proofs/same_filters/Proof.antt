@@ -3,9 +3,6 @@ use Prim.Native.Nat.{_-_, _≤_}
 use borrow.Author.Needs.{needs}
 use Rattle.orders.proofs.same_filters.Statement.{statement}
 use Rattle.orders.proofs.same_filters.Tie as tie
-use Rattle.orders.proofs.same_filters.Reads as reads
-use Rattle.orders.proofs.same_filters.Lts as lts
-use Rattle.orders.proofs.same_filter.Reads as same-filter-reads
 
 abbrev Inv-loop : tie.InvT-loop
 Inv-loop fs gs i₀ i = i ≤ 51

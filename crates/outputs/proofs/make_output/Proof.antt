@@ -14,10 +14,6 @@ use Rattle.rows.proofs.Ways.{shut, let-in}
 use Rattle.rows.proofs.RowsOf.{work-fits}
 use Rattle.outputs.proofs.make_output.Statement.{statement}
 use Rattle.outputs.proofs.make_output.Tie as tie
-use Rattle.outputs.proofs.make_output.Reads as reads
-use Rattle.outputs.proofs.make_output.Lts as lts
-use Rattle.rows.proofs.work_for.Reads as work-for-reads
-use Rattle.outputs.proofs.wall_output.Reads as wall-output-reads
 
 nothing : (f : ℕ) (qs : List Cursors) (fs : List Filter) (work : List Float) → (fs ≡ outputEnds wall f qs fs false work) × (work ≡ outputLaid wall f qs fs false work)
 unfolding outputEnds outputLaid

@@ -16,10 +16,6 @@ use Rattle.rows.proofs.Ways.{shut, let-in}
 use Rattle.rows.proofs.RowFits.{output-of}
 use Rattle.outputs.proofs.output_row.Statement.{statement}
 use Rattle.outputs.proofs.output_row.Tie as tie
-use Rattle.outputs.proofs.output_row.Reads as reads
-use Rattle.outputs.proofs.output_row.Lts as lts
-use Rattle.rows.proofs.output_fits.Reads as output-fits-reads
-use Rattle.outputs.proofs.passes.output_in.Reads as output-in-reads
 
 nothing : (n f : ℕ) (d : Float) (v : Rings) (fs : List Filter) (rows : List Float) → outputFits n f (v .passes .lengths) (length rows) ≡ false
     → (fs ≡ outputAfter n f d v fs rows) × (rows ≡ outputMade n f d v fs rows)

@@ -4,9 +4,6 @@ use denote.Ref.{now}
 use Rattle.outputs.proofs.OutputLaid.{laid-output}
 use Rattle.outputs.proofs.wall_output.Statement.{statement}
 use Rattle.outputs.proofs.wall_output.Tie as tie
-use Rattle.outputs.proofs.wall_output.Reads as reads
-use Rattle.outputs.proofs.wall_output.Lts as lts
-use Rattle.outputs.proofs.passes.output_in.Reads as output-in-reads
 
 returns : tie.Need-returns
 returns c =

@@ -1,7 +1,7 @@
 -- `reverb::tail` meets its contract. Assumes nothing.
 use borrow.Author.Needs.{needs}
 use mathlib.Core.Path.{refl, ap}
-use mathlib.Core.Bool.{not, true}
+use mathlib.Core.Bool.{not}
 use lib.ListN.{length, take}
 use denote.Ref.{now}
 use Rattle.samples.specs.declared.Frames.{Frames}
@@ -14,8 +14,8 @@ use Rattle.judges.specs.Judges.{judgedTail, lentOk}
 use Rattle.judges.proofs.Fits.{due-of, room-of}
 use Rattle.machine.specs.Ending.{lend}
 use Rattle.machine.specs.Whole as Play
-use Rattle.machine.specs.Whole.{frameFor, countFor, inputFor, played}
-use Rattle.machine.proofs.Ends.{ends-refused, ends-let-by, Ends}
+use Rattle.machine.specs.Whole.{inputFor}
+use Rattle.machine.proofs.Ends.{ends-refused}
 use Rattle.reverb.proofs.WholeParts.{no-input, as-call}
 use Rattle.reverb.proofs.tail.Statement.{statement}
 use Rattle.reverb.proofs.tail.Tie as tie

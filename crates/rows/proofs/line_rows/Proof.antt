@@ -14,10 +14,6 @@ use Rattle.rows.proofs.Ways.{shut, let-in}
 use Rattle.rows.proofs.RowFits.{lines-of}
 use Rattle.rows.proofs.line_rows.Statement.{statement}
 use Rattle.rows.proofs.line_rows.Tie as tie
-use Rattle.rows.proofs.line_rows.Reads as reads
-use Rattle.rows.proofs.line_rows.Lts as lts
-use Rattle.rows.proofs.fits.lines_fit.Reads as lines-fit-reads
-use Rattle.rows.proofs.lines_in.Reads as lines-in-reads
 
 nothing : (n f : ℕ) (k : Float) (tail : Bool) (fs : List Filter) (rows : List Float) → linesFit n f (length rows) ≡ false
     → (fs ≡ linesEnds n f k tail fs rows) × (rows ≡ linesLaid n f k tail fs rows)

@@ -4,11 +4,6 @@ use denote.Ref.{now}
 use Rattle.rows.proofs.RowJoins.{lines-join}
 use Rattle.rows.proofs.lines_in.Statement.{statement}
 use Rattle.rows.proofs.lines_in.Tie as tie
-use Rattle.rows.proofs.lines_in.Reads as reads
-use Rattle.rows.proofs.lines_in.Lts as lts
-use Rattle.mixer.proofs.mix_rows.Reads as mix-rows-reads
-use Rattle.rows.proofs.filters.band_lines.Reads as band-lines-reads
-use Rattle.rows.proofs.sums.add_unless.Reads as add-unless-reads
 
 returns : tie.Need-returns
 returns c =

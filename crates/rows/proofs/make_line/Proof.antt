@@ -16,11 +16,6 @@ use Rattle.rows.proofs.Ways.{shut, let-in}
 use Rattle.rows.proofs.RowsOf.{work-fits}
 use Rattle.rows.proofs.make_line.Statement.{statement}
 use Rattle.rows.proofs.make_line.Tie as tie
-use Rattle.rows.proofs.make_line.Reads as reads
-use Rattle.rows.proofs.make_line.Lts as lts
-use Rattle.rows.proofs.fits.work_for.Reads as work-for-reads
-use Rattle.rows.proofs.wall_line.Reads as wall-line-reads
-use Rattle.samples.proofs.and.Reads as and-reads
 
 nothing : (f i : ℕ) (tail : Bool) (fs : List Filter) (work : List Float) → (fs ≡ lineEnds wall f i fs false work) × (work ≡ lineLaid wall f i tail fs false work)
 unfolding lineEnds lineLaid

@@ -6,9 +6,6 @@ use Rattle.rows.specs.Fits.{fewRows}
 use borrow.Author.Needs.{needs}
 use Rattle.rows.proofs.fits.few_rows.Statement.{statement}
 use Rattle.rows.proofs.fits.few_rows.Tie as tie
-use Rattle.rows.proofs.fits.few_rows.Reads as reads
-use Rattle.rows.proofs.fits.few_rows.Lts as lts
-use Rattle.samples.proofs.and.Reads as and-reads
 
 returns : tie.Need-returns
 unfolding fewRows

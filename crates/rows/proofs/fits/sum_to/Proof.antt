@@ -9,8 +9,6 @@ use Rattle.unit.specs.Sizes.{total}
 use Rattle.rows.proofs.RowFits.{ring-summed, ring-over, rings-summed}
 use Rattle.rows.proofs.fits.sum_to.Statement.{statement}
 use Rattle.rows.proofs.fits.sum_to.Tie as tie
-use Rattle.rows.proofs.fits.sum_to.Reads as reads
-use Rattle.rows.proofs.fits.sum_to.Lts as lts
 
 abbrev Inv-loop : tie.InvT-loop
 Inv-loop len ps rest₀ i₀ rest i = (i ≤ 4) × (rest + total (take i ps) ≡ len)

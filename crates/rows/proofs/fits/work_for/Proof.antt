@@ -4,11 +4,6 @@ use mathlib.Core.Bool.{_&&_}
 use borrow.Author.Needs.{needs}
 use Rattle.rows.proofs.fits.work_for.Statement.{statement}
 use Rattle.rows.proofs.fits.work_for.Tie as tie
-use Rattle.rows.proofs.fits.work_for.Reads as reads
-use Rattle.rows.proofs.fits.work_for.Lts as lts
-use Rattle.samples.proofs.and.Reads as and-reads
-use Rattle.samples.proofs.frame_ok.Reads as frame-ok-reads
-use Rattle.unit.proofs.work_ok.Reads as work-ok-reads
 
 returns : tie.Need-returns
 returns c = c .and .ensures ∙ (λ i. c .before .before .frame-ok .ensures i && c .before .work-ok .ensures i)

@@ -2,9 +2,6 @@
 use borrow.Author.Needs.{needs}
 use Rattle.rows.proofs.sums.add_input.Statement.{statement}
 use Rattle.rows.proofs.sums.add_input.Tie as tie
-use Rattle.rows.proofs.sums.add_input.Reads as reads
-use Rattle.rows.proofs.sums.add_input.Lts as lts
-use Rattle.stages.proofs.add_first.Reads as add-first-reads
 
 returns-2 : tie.Need-returns-2
 returns-2 c = rw (c .before .before .before .before .if1 .left) (c .before .before .add-first .ensures)
