@@ -16,11 +16,10 @@ use Rattle.hadamard.proofs.Laws.{rows-length}
 use Rattle.unit.specs.UnitState.{UnitState}
 use Rattle.unit.specs.Model.{Model}
 use Rattle.unit.specs.Room.{unitRings}
-use Rattle.unit.specs.Sizes.{lengths, total, filtersLen, storeLen, workLen}
-use Rattle.stages.specs.Frame.{Frame, frameIn, passesIn, lineRows}
+use Rattle.unit.specs.Layout.{lengths, total, filtersLen, storeLen, workLen, mixMark, lineMark, outputMark}
+use Rattle.stages.specs.Frame.{Frame, frameIn, allpassIn, lineRows}
 use Rattle.stages.proofs.RowLaws.{Held, length-readRows, length-bandEnds}
 use Rattle.stages.proofs.FrameLaws.{put-beside, out-long}
-use Rattle.judges.specs.Marks.{mixMark, lineMark, outputMark}
 use Rattle.rows.specs.Rows.{Rows, rowsOf, joinedRows}
 use Rattle.machine.specs.Ending.{Memory}
 use Rattle.demands.proofs.LineRings.{row-long, lines-held}
@@ -74,7 +73,7 @@ abbrev pub outputAt : Model → Opening → List Bool → List Float
 outputAt m o marks = cond (at marks (outputMark m)) (frameAt m o .output .out) (silence o)
 
 abbrev pub ringsAt : Model → Opening → List Bool → List Float
-ringsAt m o marks = cond (at marks (outputMark m)) (frameAt m o .output .rings) (passesIn (lengths m (o .unit)) (o .store))
+ringsAt m o marks = cond (at marks (outputMark m)) (frameAt m o .output .rings) (allpassIn (lengths m (o .unit)) (o .store))
 
 abbrev pub toneAt : Model → Opening → List Bool → List Filter
 toneAt m o marks = cond (at marks (outputMark m)) (frameAt m o .output .filters) (drop (3 * m .lines) (o .filters))
@@ -148,13 +147,13 @@ module _ (m : Model) (o : Opening) (h : Fit m o) where
   unfolding frameIn
   ends-three i b = ap length (filters-row n f (m .factor) (o .tail) (o .filters) (o .input) (R .reads) i b)
 
-  begun-long : length (passesIn (lengths m (o .unit)) (o .store)) ≡ total (m .passLengths)
+  begun-long : length (allpassIn (lengths m (o .unit)) (o .store)) ≡ total (m .passLengths)
   unfolding storeLen
   begun-long = simp length-drop (omega (arith, h .store))
 
   done-long : length (R .output .rings) ≡ total (m .passLengths)
   unfolding frameIn
-  done-long = rings-long n f (m .divisor) (m .passLengths) (o .unit .cursors .passes) (o .filters) (passesIn (lengths m (o .unit)) (o .store)) (R .reads) (h .passes) begun-long
+  done-long = rings-long n f (m .divisor) (m .passLengths) (o .unit .cursors .passes) (o .filters) (allpassIn (lengths m (o .unit)) (o .store)) (R .reads) (h .passes) begun-long
 
   silence-long : length (silence o) ≡ f
   silence-long = length-replicate f +0
@@ -184,7 +183,7 @@ module _ (m : Model) (o : Opening) (h : Fit m o) where
     unfolding frameIn
     output-long =
         cond-long (at marks (outputMark m)) _ _ f
-        (out-long n f (m .divisor) (m .passLengths) (o .unit .cursors .passes) (o .filters) (passesIn (lengths m (o .unit)) (o .store)) (R .reads) (h .fours)) silence-long
+        (out-long n f (m .divisor) (m .passLengths) (o .unit .cursors .passes) (o .filters) (allpassIn (lengths m (o .unit)) (o .store)) (R .reads) (h .fours)) silence-long
 
     pub rings-at-long : length (ringsAt m o marks) ≡ total (m .passLengths)
     rings-at-long = cond-long (at marks (outputMark m)) _ _ (total (m .passLengths)) done-long begun-long

@@ -16,11 +16,11 @@ use Rattle.hadamard.proofs.Laws.{rows-length}
 use Rattle.iir.specs.declared.Filter.{Filter}
 use Rattle.iir.specs.Runs.{bandsOut, bandsEnd}
 use Rattle.iir.proofs.Laws.{bands-length}
-use Rattle.unit.specs.Sizes.{total}
+use Rattle.unit.specs.Layout.{total}
 use Rattle.allpass.specs.Passes.{passEnd}
 use Rattle.allpass.proofs.Stages.{pass-rings}
 use Rattle.stages.specs.Lines.{noFilter, bandRows, three, threeOf, bandEnds, plus, addRows}
-use Rattle.stages.specs.Frame.{stretch, stageAt, ringsOf, lineRows, outputRow}
+use Rattle.stages.specs.Frame.{stretch, stageAt, allpassOf, lineRows, outputRow}
 use Rattle.stages.proofs.RowLaws.{byBands, peel, length-plus, length-bandRows}
 use Rattle.demands.proofs.AnyOrderRows.{getD-row}
 
@@ -160,7 +160,7 @@ module _ (a b c d : ℕ) (rings : List Float) (e : length rings ≡ total (a ∷
   )
 
   four-rings : (k : ℕ) (cs : List Cursors) (row pass : List Float)
-      → length (ringsOf (passEnd k (stageAt four cs rings 0) row) (passEnd k (stageAt four cs rings 2) pass)) ≡ total four
+      → length (allpassOf (passEnd k (stageAt four cs rings 0) row) (passEnd k (stageAt four cs rings 2) pass)) ≡ total four
   unfolding total
   four-rings k cs row pass =
       let s = pass-rings k (stageAt four cs rings 0) row in

@@ -4,7 +4,7 @@ use Prim.Native.Nat.{ℕ, zero, suc, _+_, _*_, _<_, _≤_}
 use mathlib.Core.Path.{_≡_, refl, sym, ap, _∙_}
 use mathlib.Core.Bool.{Bool, true, false, cond}
 use mathlib.Core.List.{List, _++_}
-use native.Mathlib.Nat.{zero-add, add-zero, zero-mul}
+use native.Mathlib.Nat.{add-zero, zero-mul}
 use native.Mathlib.Omega.{arith}
 use lib.Ieee.{Float}
 use lib.ListN.{length, getD, take, drop, set, replicate, length-drop, getD-replicate, replicate-append-replicate, take-append-drop}
@@ -17,10 +17,10 @@ use Rattle.iir.specs.Runs.{bandsOut, bandsEnd}
 use Rattle.hadamard.specs.Rows.{mixedRows}
 use Rattle.unit.specs.UnitState.{UnitState}
 use Rattle.unit.specs.Model.{Model}
-use Rattle.unit.specs.Sizes.{lengths, jobsLen}
+use Rattle.unit.specs.Layout.{lengths, jobsLen, mixMark, lineMark, outputMark}
 use Rattle.stages.specs.Lines.{noFilter, three, threeOf, plus}
-use Rattle.stages.specs.Frame.{Frame, OutputRow, frameIn, passesIn, lineRows, newFilters}
-use Rattle.judges.specs.Marks.{mixMark, lineMark, outputMark, allDone}
+use Rattle.stages.specs.Frame.{Frame, OutputRow, frameIn, allpassIn, lineRows, newFilters}
+use Rattle.judges.specs.Marks.{allDone}
 use Rattle.rows.specs.Rows.{Rows, rowsOf, joinedRows}
 use Rattle.rows.specs.Parts.{lineIn, lineLaid, lineEnds}
 use Rattle.outputs.specs.Parts.{outputIn, outputLaid, outputEnds}
@@ -74,7 +74,7 @@ module _ (m : Model) (o : Opening) (h : Fit m o) (marks : List Bool) where
       output-kept = ap (λ (b : Bool). cond b (R .output .out) (silence o)) mark-kept
 
       rings-kept : ringsAt m o marks ≡ ringsAt m o more
-      rings-kept = ap (λ (b : Bool). cond b (R .output .rings) (passesIn (lengths m (o .unit)) (o .store))) mark-kept
+      rings-kept = ap (λ (b : Bool). cond b (R .output .rings) (allpassIn (lengths m (o .unit)) (o .store))) mark-kept
 
       tone-kept : toneAt m o marks ≡ toneAt m o more
       tone-kept = ap (λ (b : Bool). cond b (R .output .filters) (drop (3 * n) (o .filters))) mark-kept
@@ -98,7 +98,7 @@ module _ (m : Model) (o : Opening) (h : Fit m o) (marks : List Bool) where
       read-is : readRow m (unitAt m o marks) i (o .store) ≡ readAt m o (set marks i true) i
       unfolding frameIn
       read-is =
-          let e = rw zero-add at (read-row f (lengths m (o .unit)) (o .unit .cursors .lines) n 0 i (o .store) b (held m o h)) in
+          let e = read-row f (lengths m (o .unit)) (o .unit .cursors .lines) n i (o .store) b (held m o h) in
           sym e ∙ rw (set-here marks i (omega (arith, g .long))) refl
 
       pub read-filters : filtersAt m o marks ≡ filtersAt m o (set marks i true)
@@ -286,13 +286,13 @@ module _ (m : Model) (o : Opening) (h : Fit m o) (marks : List Bool) where
             reads = reads-kept (outputMark m) (omega arith) t;
             mixed = mixed-kept (outputMark m) out-there (λ q. omega arith) t;
             output = cond (sym out-here t) (R .output .out) (silence o);
-            rings = cond (sym out-here t) (R .output .rings) (passesIn (lengths m (o .unit)) (o .store));
+            rings = cond (sym out-here t) (R .output .rings) (allpassIn (lengths m (o .unit)) (o .store));
           }))
 
       pub output-filters : jobFilters m (memoryAt m o marks) outputJob ≡ filtersAt m o out
       unfolding outputEnds frameIn
       output-filters =
-          let tone : length (R .output .filters) ≡ 3 = tone-long n f (m .divisor) (m .passLengths) (o .unit .cursors .passes) (o .filters) (passesIn (lengths m (o .unit)) (o .store)) (R .reads) in
+          let tone : length (R .output .filters) ≡ 3 = tone-long n f (m .divisor) (m .passLengths) (o .unit .cursors .passes) (o .filters) (allpassIn (lengths m (o .unit)) (o .store)) (R .reads) in
           let old : length (toneAt m o marks) ≡ 3 = rw undone (simp length-drop (omega (arith, h .filters))) in
           (λ t. over (3 * n) (output-cut t .filters) (filtersAt m o marks))
           ∙ over-end (3 * n) (R .output .filters) (stacked n (bandsAt m o marks)) (toneAt m o marks) lines-long (old ∙ sym tone)
@@ -326,7 +326,7 @@ module _ (m : Model) (o : Opening) where
       let tone : toneAt m o none ≡ drop (3 * m .lines) (o .filters) = rw no-output refl in
       (λ t. lines t ++ tone t) ∙ take-append-drop (3 * m .lines) (o .filters)
 
-  pub none-work : openLaid m (o .unit .settings .frame) (o .input) (passesIn (lengths m (o .unit)) (o .store)) ≡ joinedRows (rowsAt m o none)
+  pub none-work : openLaid m (o .unit .settings .frame) (o .input) (allpassIn (lengths m (o .unit)) (o .store)) ≡ joinedRows (rowsAt m o none)
   unfolding openLaid
   none-work =
       let silent = silent-rows (m .lines) (o .unit .settings .frame) in
@@ -339,7 +339,7 @@ module _ (m : Model) (o : Opening) where
         reads = (silent ∙ reads) t;
         mixed = (silent ∙ mixed) t;
         output = cond (sym no-output t) (frameAt m o .output .out) (silence o);
-        rings = cond (sym no-output t) (frameAt m o .output .rings) (passesIn (lengths m (o .unit)) (o .store));
+        rings = cond (sym no-output t) (frameAt m o .output .rings) (allpassIn (lengths m (o .unit)) (o .store));
       })
 
 -- ---- all marks
@@ -376,7 +376,7 @@ module _ (m : Model) (o : Opening) (h : Fit m o) (marks : List Bool) (long : len
         reads = reads t;
         mixed = mixed t;
         output = cond (its-output t) (frameAt m o .output .out) (silence o);
-        rings = cond (its-output t) (frameAt m o .output .rings) (passesIn (lengths m (o .unit)) (o .store));
+        rings = cond (its-output t) (frameAt m o .output .rings) (allpassIn (lengths m (o .unit)) (o .store));
       }
 
   pub all-filters : filtersAt m o marks ≡ newFilters (frameAt m o)

@@ -9,8 +9,8 @@ use lib.ListN.{length, getD, set, take, replicate, length-set, length-take, leng
 use lib.Seq.{getD-set-same, getD-set-other, getD-take}
 use Rattle.samples.proofs.Laws.{all-at}
 use Rattle.unit.specs.Model.{Model}
-use Rattle.unit.specs.Sizes.{jobsLen}
-use Rattle.judges.specs.Marks.{mixMark, lineMark, outputMark, allDone}
+use Rattle.unit.specs.Layout.{jobsLen, mixMark, lineMark, outputMark}
+use Rattle.judges.specs.Marks.{allDone}
 
 abbrev pub at : List Bool → ℕ → Bool
 at marks k = getD marks k false

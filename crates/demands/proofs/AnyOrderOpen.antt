@@ -15,9 +15,10 @@ use Rattle.samples.proofs.Laws.{split-and, join-and, frame-of}
 use Rattle.iir.specs.declared.Filter.{Filter}
 use Rattle.unit.specs.UnitState.{UnitState}
 use Rattle.unit.specs.Model.{Model}
-use Rattle.unit.specs.Sizes.{lengths, filtersLen, jobsLen, storeLen, workLen, coefficientsLen}
+use Rattle.unit.specs.Layout.{lengths, filtersLen, jobsLen, storeLen, workLen, coefficientsLen}
 use Rattle.unit.specs.Range.{inRange, cursorsIn}
-use Rattle.judges.specs.Judges.{judged, storeOk, workOk, lentOk, givenOk, judgedGiven}
+use Rattle.unit.specs.Room.{lentOk}
+use Rattle.judges.specs.Judges.{judged, storeOk, workOk, givenOk, judgedGiven}
 use Rattle.stages.specs.Frame.{Frame}
 use Rattle.stages.proofs.RowLaws.{length-filtersOf}
 use Rattle.machine.specs.Whole.{Play, apply, tail, isTail, filtersFor, inputFor, countFor, wholeDue}

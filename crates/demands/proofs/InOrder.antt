@@ -16,10 +16,10 @@ use Rattle.samples.specs.declared.Answer.the-variants.{Accepted}
 use Rattle.samples.specs.Lists.{allFrom}
 use Rattle.samples.proofs.Laws.{join-and}
 use Rattle.unit.specs.Model.{Model}
-use Rattle.unit.specs.Sizes.{jobsLen}
+use Rattle.unit.specs.Layout.{jobsLen, mixMark, lineMark, outputMark}
 use Rattle.unit.specs.Range.{inRange}
 use Rattle.judges.specs.Judges.{storeOk, workOk}
-use Rattle.judges.specs.Marks.{mixMark, lineMark, outputMark, allDone, allRead}
+use Rattle.judges.specs.Marks.{allDone, allRead}
 use Rattle.rows.specs.Rows.{joinedRows}
 use Rattle.machine.specs.Whole.{Play}
 use Rattle.machine.specs.Ending.{Memory}

@@ -19,10 +19,11 @@ use Rattle.delay.specs.Calls.{both}
 use Rattle.delay.proofs.Laws.{accept-either}
 use Rattle.unit.specs.UnitState.{UnitState}
 use Rattle.unit.specs.Model.{Model}
-use Rattle.unit.specs.Sizes.{lengths, coefficientsLen, storeLen, workLen}
+use Rattle.unit.specs.Layout.{lengths, coefficientsLen, storeLen, workLen}
 use Rattle.unit.specs.Fresh.{freshUnit}
 use Rattle.unit.specs.Range.{inRange, below, cursorsIn}
-use Rattle.judges.specs.Judges.{judged, judgedFresh, judgedReset, judgedGiven, givenOk, lentOk, storeOk, workOk}
+use Rattle.unit.specs.Room.{lentOk}
+use Rattle.judges.specs.Judges.{judged, judgedFresh, judgedReset, judgedGiven, givenOk, storeOk, workOk}
 use Rattle.stages.specs.Frame.{frameIn}
 use Rattle.stages.proofs.FrameLaws.{put-beside}
 use Rattle.judges.specs.Marks.{allDone}

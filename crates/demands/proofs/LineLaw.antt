@@ -5,7 +5,6 @@ use mathlib.Core.Path.{_≡_, refl, sym, ap, _∙_}
 use mathlib.Core.Bool.{Bool, true, false, _&&_, cond}
 use mathlib.Core.List.{List, [], _∷_, _++_, append-nil, append-assoc}
 use mathlib.Core.Logic.{_⊎_, inl, inr}
-use native.Mathlib.Nat.{zero-add}
 use native.Mathlib.Omega.{arith}
 use borrow.Author.Tests.{eqb-true, eq-eqb}
 use lib.Dec.{eqb}
@@ -23,13 +22,13 @@ use Rattle.delay.specs.Calls.{both}
 use Rattle.delay.proofs.Laws.{accept-either, rotl-same}
 use Rattle.unit.specs.UnitState.{UnitState}
 use Rattle.unit.specs.Model.{Model}
-use Rattle.unit.specs.Sizes.{lengths, jobsLen, storeLen, workLen}
+use Rattle.unit.specs.Layout.{lengths, jobsLen, storeLen, workLen, mixMark, lineMark, outputMark}
 use Rattle.unit.specs.Fresh.{freshUnit}
 use Rattle.judges.specs.Judges.{storeOk, workOk}
 use Rattle.stages.specs.Frame.{frameIn, newFilters}
 use Rattle.stages.specs.Settle.{allMoved, putRows}
 use Rattle.machine.specs.Whole.{counted, movedOn, Play, countFor, frameFor, wholeDue}
-use Rattle.judges.specs.Marks.{marked, mixMark, lineMark, outputMark}
+use Rattle.judges.specs.Marks.{marked}
 use Rattle.judges.specs.Turns.{judgedClose}
 use Rattle.rows.specs.Rows.{rowsOf}
 use Rattle.machine.specs.Jobs.{unitOpened, unitMarked, readRow, unitClosed, unitShut, Job, readJob, mixJob, lineJob, outputJob, jobWork}
@@ -166,7 +165,7 @@ module _ (m : Model) (i : ℕ) (h : i < m .lines) (l : ℕ) where
   whole-row : (u : UnitState) (p : Play) (store : List Float) → Lent m u (length store) → row (u .settings .frame) i (frameFor m u p store .reads) ≡ readRow m u i store
   unfolding frameIn
   whole-row u p store lent =
-      rw zero-add at (read-row (u .settings .frame) (lengths m u) (u .cursors .lines) (m .lines) 0 i store h (held m i h u store lent))
+      read-row (u .settings .frame) (lengths m u) (u .cursors .lines) (m .lines) i store h (held m i h u store lent)
 
   module _ (w : Memory) (a : Account) (inv : Holds (w .unit) (w .store) a) where
     abbrev u : UnitState
@@ -336,8 +335,8 @@ module _ (m : Model) (i : ℕ) (h : i < m .lines) where
       → view (lengths m u) i (u .cursors .lines) (replicate store +0) ≡ replicate (getD (lengths m u) i 0) +0
   unfolding storeLen
   silent-view u store e b =
-      let same = ring-same (u .settings .frame) (lengths m u) (m .lines) 0 i store +0 h (lines-held m u store (omega arith)) in
-      rw (same, zero-add) (rotl-same (getD (lengths m u) i 0) (cursors u i .read .0) +0 b)
+      let same = ring-same (u .settings .frame) (lengths m u) (m .lines) i store +0 h (lines-held m u store (omega arith)) in
+      rw same (rotl-same (getD (lengths m u) i 0) (cursors u i .read .0) +0 b)
 
   -- with no frame open
   from-silence : (u : UnitState) (store : ℕ) → store ≡ storeLen m (lengths m u) → cursors u i .read .0 ≤ getD (lengths m u) i 0 → u .held .busy ≡ false

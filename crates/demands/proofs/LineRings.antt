@@ -6,7 +6,7 @@ use native.Mathlib.Nat.{add-zero, zero-add, suc-mul, not-suc-le-zero}
 use native.Mathlib.Omega.{arith}
 use lib.Ieee.{Float}
 use lib.ListN.{length, getD, take, drop, replicate, length-take, length-drop, length-replicate, replicate-append-replicate}
-use lib.Seq.{take-at, drop-at, take-all}
+use lib.Seq.{take-at, drop-at, drop-drop, take-all}
 use Rattle.samples.specs.Lists.{row}
 use Rattle.delay.specs.declared.Cursors.{Cursors}
 use Rattle.delay.specs.Calls.{both}
@@ -15,15 +15,32 @@ use Rattle.delay.proofs.Laws.{length-read, length-write}
 use Rattle.unit.proofs.Ranges.{length-at, lengths-long}
 use Rattle.unit.specs.UnitState.{UnitState}
 use Rattle.unit.specs.Model.{Model}
-use Rattle.unit.specs.Sizes.{total, lengths}
+use Rattle.unit.specs.Layout.{total, lengths}
 use Rattle.stages.specs.Lines.{readRows}
+use Rattle.stages.specs.Frame.{stretch}
 use Rattle.stages.specs.Settle.{putRows, movedBy, allMoved}
 use Rattle.stages.proofs.RowLaws.{Held, total-more}
-use Rattle.rows.specs.Rings.{ringAt}
 
 -- the line after i of those from j on is line i of those from j + 1 on
 on : (j i : ℕ) → j + suc i ≡ j + 1 + i
 on j i = omega arith
+
+-- ring i of those from line j on, by passing over one after the other
+abbrev ringAt : List ℕ → ℕ → ℕ → List Float → List Float
+ringAt ls j zero store = take (getD ls j 0) store
+ringAt ls j (suc i) store = ringAt ls (j + 1) i (drop (getD ls j 0) store)
+
+-- it begins after the i rings before it
+ring-from : (ls : List ℕ) (i j : ℕ) (store : List Float) → ringAt ls j i store ≡ take (getD ls (j + i) 0) (drop (total (take i (drop j ls))) store)
+unfolding total
+ring-from ls zero j store = rw add-zero refl
+ring-from ls (suc i) j store =
+    let e : j + 1 + i ≡ j + suc i = omega arith in
+    ring-from ls i (j + 1) (drop (getD ls j 0) store) ∙ rw (e, total-more i j ls, ← drop-drop (total (take i (drop (j + 1) ls))) (getD ls j 0) store) refl
+
+ring-at : (ls : List ℕ) (i : ℕ) (store : List Float) → ringAt ls 0 i store ≡ stretch ls i store
+unfolding stretch
+ring-at ls i store = rw zero-add at (ring-from ls i 0 store)
 
 -- ---- a row of rows
 
@@ -58,17 +75,23 @@ module _ (f : ℕ) (ls : List ℕ) where
     rest-held : Held f (suc n) j ls (length store) → Held f n (j + 1) ls (length (drop (getD ls j 0) store))
     rest-held r = rw (length-drop (getD ls j 0) store) (r .2)
 
-  pub ring-long : (n j i : ℕ) (store : List Float) → i < n → Held f n j ls (length store) → length (ringAt ls j i store) ≡ getD ls (j + i) 0
-  ring-long zero j i store h r = absurd (not-suc-le-zero h)
-  ring-long (suc n) j zero store h r = rw add-zero (first-long store n j r)
-  ring-long (suc n) j (suc i) store h r = rw (on j i) (ring-long n (j + 1) i (drop (getD ls j 0) store) (omega arith) (rest-held store n j r))
+  ring-long-from : (n j i : ℕ) (store : List Float) → i < n → Held f n j ls (length store) → length (ringAt ls j i store) ≡ getD ls (j + i) 0
+  ring-long-from zero j i store h r = absurd (not-suc-le-zero h)
+  ring-long-from (suc n) j zero store h r = rw add-zero (first-long store n j r)
+  ring-long-from (suc n) j (suc i) store h r = rw (on j i) (ring-long-from n (j + 1) i (drop (getD ls j 0) store) (omega arith) (rest-held store n j r))
+
+  pub ring-long : (n i : ℕ) (store : List Float) → i < n → Held f n 0 ls (length store) → length (stretch ls i store) ≡ getD ls i 0
+  ring-long n i store h r = ap length (sym (ring-at ls i store)) ∙ (rw zero-add at (ring-long-from n 0 i store h r))
 
   -- of a silent store
-  pub ring-same : (n j i len : ℕ) (a : Float) → i < n → Held f n j ls len → ringAt ls j i (replicate len a) ≡ replicate (getD ls (j + i) 0) a
-  ring-same zero j i len a h r = absurd (not-suc-le-zero h)
-  ring-same (suc n) j zero len a h r = rw add-zero (cut-same a (getD ls j 0) len (r .1) .0)
-  ring-same (suc n) j (suc i) len a h r =
-      rw (cut-same a (getD ls j 0) len (r .1) .1, on j i) (ring-same n (j + 1) i (len - getD ls j 0) a (omega arith) (r .2))
+  ring-same-from : (n j i len : ℕ) (a : Float) → i < n → Held f n j ls len → ringAt ls j i (replicate len a) ≡ replicate (getD ls (j + i) 0) a
+  ring-same-from zero j i len a h r = absurd (not-suc-le-zero h)
+  ring-same-from (suc n) j zero len a h r = rw add-zero (cut-same a (getD ls j 0) len (r .1) .0)
+  ring-same-from (suc n) j (suc i) len a h r =
+      rw (cut-same a (getD ls j 0) len (r .1) .1, on j i) (ring-same-from n (j + 1) i (len - getD ls j 0) a (omega arith) (r .2))
+
+  pub ring-same : (n i len : ℕ) (a : Float) → i < n → Held f n 0 ls len → stretch ls i (replicate len a) ≡ replicate (getD ls i 0) a
+  ring-same n i len a h r = sym (ring-at ls i (replicate len a)) ∙ (rw zero-add at (ring-same-from n 0 i len a h r))
 
   module _ (cs : List Cursors) where
     -- ---- what is read of line i, and what is put there
@@ -83,25 +106,37 @@ module _ (f : ℕ) (ls : List ℕ) where
         let e = first-long store n j r in
         length-write (take (getD ls j 0) store) (take f rows) (getD cs j (both 0) .write .0) (simp length-take (omega (arith, r .0))) ∙ e
 
-    pub read-row : (n j i : ℕ) (store : List Float) → i < n → Held f n j ls (length store)
+    read-row-from : (n j i : ℕ) (store : List Float) → i < n → Held f n j ls (length store)
         → row f i (readRows f n j ls cs store) ≡ read (ringAt ls j i store) (getD cs (j + i) (both 0) .read .0) f
     unfolding readRows
-    read-row zero j i store h r = absurd (not-suc-le-zero h)
-    read-row (suc n) j zero store h r =
+    read-row-from zero j i store h r = absurd (not-suc-le-zero h)
+    read-row-from (suc n) j zero store h r =
         rw (add-zero, take-at _ _ f (first-read n j store r)) refl
-    read-row (suc n) j (suc i) store h r =
+    read-row-from (suc n) j (suc i) store h r =
         rw (on j i, drop-at _ _ f (first-read n j store r))
-        (read-row n (j + 1) i (drop (getD ls j 0) store) (omega arith) (rest-held store n j r))
+        (read-row-from n (j + 1) i (drop (getD ls j 0) store) (omega arith) (rest-held store n j r))
 
-    pub put-row : (n j i : ℕ) (rows rings store : List Float) → i < n → Held f n j ls (length store)
+    put-row-from : (n j i : ℕ) (rows rings store : List Float) → i < n → Held f n j ls (length store)
         → ringAt ls j i (putRows f n j ls cs rows rings store) ≡ write (ringAt ls j i store) (getD cs (j + i) (both 0) .write .0) (row f i rows)
     unfolding putRows
-    put-row zero j i rows rings store h r = absurd (not-suc-le-zero h)
-    put-row (suc n) j zero rows rings store h r =
+    put-row-from zero j i rows rings store h r = absurd (not-suc-le-zero h)
+    put-row-from (suc n) j zero rows rings store h r =
         rw (add-zero, take-at _ _ (getD ls j 0) (first-written n j rows store r)) refl
-    put-row (suc n) j (suc i) rows rings store h r =
+    put-row-from (suc n) j (suc i) rows rings store h r =
         rw (on j i, drop-at _ _ (getD ls j 0) (first-written n j rows store r))
-        (put-row n (j + 1) i (drop f rows) rings (drop (getD ls j 0) store) (omega arith) (rest-held store n j r))
+        (put-row-from n (j + 1) i (drop f rows) rings (drop (getD ls j 0) store) (omega arith) (rest-held store n j r))
+
+    pub read-row : (n i : ℕ) (store : List Float) → i < n → Held f n 0 ls (length store)
+        → row f i (readRows f n 0 ls cs store) ≡ read (stretch ls i store) (getD cs i (both 0) .read .0) f
+    read-row n i store h r =
+        (rw zero-add at (read-row-from n 0 i store h r)) ∙ ap (λ (x : List Float). read x (getD cs i (both 0) .read .0) f) (ring-at ls i store)
+
+    pub put-row : (n i : ℕ) (rows rings store : List Float) → i < n → Held f n 0 ls (length store)
+        → stretch ls i (putRows f n 0 ls cs rows rings store) ≡ write (stretch ls i store) (getD cs i (both 0) .write .0) (row f i rows)
+    put-row n i rows rings store h r =
+        sym (ring-at ls i (putRows f n 0 ls cs rows rings store))
+        ∙ (rw zero-add at (put-row-from n 0 i rows rings store h r))
+        ∙ ap (λ (x : List Float). write x (getD cs i (both 0) .write .0) (row f i rows)) (ring-at ls i store)
 
 -- ---- a unit's lines
 

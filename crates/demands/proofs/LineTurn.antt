@@ -3,7 +3,7 @@
 use Prim.Native.Nat.{ℕ, zero, suc, _+_, _*_, _%_, _<_, _≤_}
 use mathlib.Core.Path.{_≡_, sym, ap, _∙_}
 use mathlib.Core.List.{List, _++_}
-use native.Mathlib.Nat.{zero-add, suc-mul, add-mul, not-suc-le-zero}
+use native.Mathlib.Nat.{suc-mul, add-mul, not-suc-le-zero}
 use native.Mathlib.Omega.{arith}
 use lib.Ieee.{Float}
 use lib.ListN.{length, getD, take, drop, length-append, length-take, length-drop}
@@ -16,11 +16,11 @@ use Rattle.delay.specs.Ring.{rotl, wrap}
 use Rattle.delay.proofs.Laws.{wrap-mod, read-view, length-rotl, length-read, turn-view}
 use Rattle.unit.specs.UnitState.{UnitState}
 use Rattle.unit.specs.Model.{Model}
-use Rattle.unit.specs.Sizes.{lengths, storeLen, workLen}
+use Rattle.unit.specs.Layout.{lengths, storeLen, workLen}
+use Rattle.stages.specs.Frame.{stretch}
 use Rattle.stages.specs.Settle.{putRows, movedBy, allMoved}
 use Rattle.stages.proofs.RowLaws.{Held}
 use Rattle.rows.specs.Rows.{Rows, rowsOf}
-use Rattle.rows.specs.Rings.{ringAt}
 use Rattle.machine.specs.Jobs.{readRow, readWork}
 use Rattle.demands.proofs.Lent.{Lent, cursors, within}
 use Rattle.demands.proofs.LineRings.{row-long, ring-long, put-row, lines-long, line-length, lines-held}
@@ -37,7 +37,7 @@ pub record Turn (old new out given : List Float) : Type 0 where
 
 -- line i's ring as it lies from the read cursor on, where the lines' rings have the lengths ls and the cursors cs
 abbrev pub view : List ℕ → ℕ → List Cursors → List Float → List Float
-view ls i cs store = rotl (getD cs i (both 0) .read .0) (ringAt ls 0 i store)
+view ls i cs store = rotl (getD cs i (both 0) .read .0) (stretch ls i store)
 
 module _ (m : Model) (i : ℕ) (h : i < m .lines) (u : UnitState) (store : List Float) (lent : Lent m u (length store)) where
   abbrev f : ℕ
@@ -47,7 +47,7 @@ module _ (m : Model) (i : ℕ) (h : i < m .lines) (u : UnitState) (store : List 
   ls = lengths m u
 
   abbrev ring : List Float
-  ring = ringAt ls 0 i store
+  ring = stretch ls i store
 
   abbrev k : ℕ
   k = cursors u i .read .0
@@ -64,7 +64,7 @@ module _ (m : Model) (i : ℕ) (h : i < m .lines) (u : UnitState) (store : List 
   holds = omega (arith, line-length m u i h)
 
   ring-is : length ring ≡ l
-  ring-is = rw zero-add at (ring-long f ls (m .lines) 0 i store h held)
+  ring-is = ring-long f ls (m .lines) i store h held
 
   pub read-long : length (readRow m u i store) ≡ f
   read-long = length-read ring k f (omega (arith, ring-is, holds))
@@ -91,7 +91,7 @@ module _ (m : Model) (i : ℕ) (h : i < m .lines) (u : UnitState) (store : List 
           fits = rw (length-rotl, ring-is, lp) holds;
           taken = rw lp (read-view ring k f);
           then =
-              rw (moved, on, put-row f ls (u .cursors .lines) (m .lines) 0 i rows rings store h held, zero-add, ← equal)
+              rw (moved, on, put-row f ls (u .cursors .lines) (m .lines) i rows rings store h held, ← equal)
               (turn-view ring put k (omega (arith, ring-is, near)) (omega (arith, ring-is, lp, holds)));
         }
 

@@ -18,7 +18,8 @@ use Rattle.bands.specs.Times.{timesOk}
 use Rattle.unit.specs.UnitState.{UnitState}
 use Rattle.unit.specs.Model.{Model}
 use Rattle.unit.specs.Range.{inRange}
-use Rattle.judges.specs.Judges.{judged, judgedGiven, badInput, judgedFresh, givenOk, lentOk, storeOk, workOk}
+use Rattle.unit.specs.Room.{lentOk}
+use Rattle.judges.specs.Judges.{judged, judgedGiven, badInput, judgedFresh, givenOk, storeOk, workOk}
 use Rattle.machine.specs.Ending.{Memory, Ending, refused, quietly}
 use Rattle.machine.specs.Whole.{Play, apply, tail, wholeDue}
 use Rattle.machine.specs.Jobs.{Job, readJob, mixJob, lineJob, outputJob, openDue, jobDue}

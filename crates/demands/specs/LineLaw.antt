@@ -15,7 +15,7 @@ use Rattle.delay.specs.Calls.{both}
 use Rattle.unit.specs.UnitState.{UnitState}
 use Rattle.unit.specs.Model.{Model}
 use Rattle.judges.specs.Judges.{judgedFresh}
-use Rattle.unit.specs.Sizes.{lengths, Sized}
+use Rattle.unit.specs.Layout.{lengths, Sized}
 use Rattle.rows.specs.Rows.{rowsOf}
 use Rattle.machine.specs.Whole.{Play, frameFor}
 use Rattle.machine.specs.Ending.{Memory}

@@ -2,13 +2,13 @@
 // first echoes of a click fall (R9.27).
 use bands::Times;
 use libc::STDOUT_FILENO;
+use unit::ALLPASS_FLOATS;
 use unit::BANDS;
 use unit::COEFFICIENTS;
 use unit::DELAYS_AND_RINGS;
 use unit::FILTERS;
 use unit::LINES;
 use unit::PER_FILTER;
-use unit::RINGS;
 use unit::ROWS;
 use unit::State;
 use unit::TONE;
@@ -21,7 +21,7 @@ const FRAME: usize = 128;
 // The memory of a unit of such frames.
 const STORE: usize = DELAYS_AND_RINGS + LINES * FRAME;
 
-const WORK: usize = ROWS * FRAME + RINGS;
+const WORK: usize = ROWS * FRAME + ALLPASS_FLOATS;
 
 // Where b0 stands among the coefficients of a filter.
 const B0: usize = 2;

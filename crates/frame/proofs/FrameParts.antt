@@ -10,7 +10,7 @@ use lib.Seq.{length-take-le}
 use Rattle.samples.specs.Binary32.{+0}
 use Rattle.iir.specs.declared.Filter.{Filter}
 use Rattle.unit.specs.declared.Rings.{Rings}
-use Rattle.stages.specs.Frame.{Frame, newFilters, passesIn, frameIn}
+use Rattle.stages.specs.Frame.{Frame, newFilters, allpassIn, frameIn}
 use Rattle.stages.specs.Settle.{frameFinite, settled}
 use Rattle.stages.proofs.RowLaws.{length-readRows}
 use Rattle.stages.proofs.FrameLaws.{put-beside, out-long}
@@ -59,7 +59,7 @@ module _ (n f : ℕ) (k d : Float) (tail : Bool) (v : Rings) (fs gs : List Filte
         input = li;
         reads = length-readRows f (v .lines .lengths) (v .lines .cursors) n 0 store (lines-held f (v .lines .lengths) (v .lines .cursors) (length store) n (h .rings));
         mixed = put-beside n f k fs (take f work) (x .reads) tail li;
-        output = out-long n f d (v .passes .lengths) (v .passes .cursors) fs (passesIn (v .lines .lengths) store) (x .reads) (h .fours);
+        output = out-long n f d (v .passes .lengths) (v .passes .cursors) fs (allpassIn (v .lines .lengths) store) (x .reads) (h .fours);
       })
 
   its-filters : gs ≡ newFilters x

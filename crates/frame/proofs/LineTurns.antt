@@ -16,7 +16,7 @@ use Rattle.delay.specs.declared.Cursors.{Cursors}
 use Rattle.delay.specs.Calls.{both, getOut, putRing}
 use Rattle.delay.specs.Ring.{read, write}
 use Rattle.delay.proofs.Laws.{Moves, get-ok, put-ok, length-read, length-write}
-use Rattle.unit.specs.Sizes.{total}
+use Rattle.unit.specs.Layout.{total}
 use Rattle.stages.specs.Lines.{readRows}
 use Rattle.stages.specs.Settle.{putRows}
 use Rattle.stages.specs.Steps.{copied}

@@ -14,14 +14,14 @@ use Rattle.samples.proofs.Turns.{back}
 use Rattle.samples.proofs.Lists.{drop-two, part-long, lent-long, first-part, last-part, to-end, over-at}
 use Rattle.delay.specs.declared.Cursors.{Cursors}
 use Rattle.unit.specs.declared.Rings.{Rings}
-use Rattle.unit.specs.Sizes.{total}
+use Rattle.unit.specs.Layout.{total, outputPlace}
 use Rattle.iir.specs.declared.Filter.{Filter}
 use Rattle.stages.specs.Lines.{noFilter}
 use Rattle.stages.specs.Frame.{lineRows, outputRow, newFilters, readsOf, frameIn}
 use Rattle.stages.specs.Steps.{copied}
 use Rattle.stages.proofs.RowLaws.{copied-all}
 use Rattle.stages.proofs.FrameLaws.{put-beside}
-use Rattle.rows.specs.Rows.{outputPlace, joinedRows}
+use Rattle.rows.specs.Rows.{joinedRows}
 use Rattle.rows.specs.Fits.{outputFits}
 use Rattle.rows.specs.Steps.{linesEnds, linesLaid}
 use Rattle.rows.proofs.RowFits.{lines-yes, output-yes}
@@ -99,7 +99,7 @@ lines-join n f k tail fs gs rows reads x w some few small l kept ex e =
 -- ---- step 5 on rows that fit
 
 output-done : (n f : ℕ) (d : Float) (v : Rings) (gs hs : List Filter) (p x : List Float) → outputFits n f (v .passes .lengths) (length p) ≡ true
-    → let s = outputFrom n f d (v .passes .lengths) (v .passes .cursors) gs p in
+    → let s = outputFrom n f d (v .passes) gs p in
     (hs ≡ outputAfter n f d v gs p) × (x ≡ outputMade n f d v gs p)
     → (hs ≡ over (3 * n) (s .filters) gs) × (x ≡ take (n * f + n * f) p ++ (s .out ++ s .rings))
 unfolding outputAfter outputMade

@@ -1,4 +1,4 @@
--- What private workers cite: what they ask of the memory lent, and what is judged of a frame.
+-- What private workers cite: what they ask of the memory lent, and what one of them gives.
 use Prim.Native.Nat.{ℕ, zero, suc, _+_, _*_, _%_, _≤_, _<_}
 use mathlib.Core.Path.{_≡_}
 use mathlib.Core.List.{List}
@@ -8,8 +8,7 @@ use Rattle.delay.specs.declared.Cursors.{Cursors}
 use Rattle.delay.specs.Calls.{longestRing, both}
 use Rattle.unit.specs.declared.Rings.{Rings}
 use Rattle.unit.specs.Model.{Model, wall}
-use Rattle.unit.specs.Sizes.{total}
-use Rattle.rows.specs.Rows.{ringsPlace}
+use Rattle.unit.specs.Layout.{total, ringsPlace}
 use Rattle.frame.specs.declared.Stepped.{Stepped}
 use Rattle.frame.specs.declared.whole.Judged.{Judged}
 
@@ -38,8 +37,8 @@ Within zero i ls cs = Unit {0}
 Within (suc n) i ls cs =
     (getD ls i 0 ≤ longestRing) × (getD cs i (both 0) .read .0 < getD ls i 0) × (getD cs i (both 0) .write .0 < getD ls i 0) × Within n (i + 1) ls cs
 
--- what a frame of n lines asks of the memory lent: the lines' rings, which are all there are, and then the allpass rings in the store; the
--- rows and then the allpass rings in the work memory
+-- what a frame of n lines asks of the memory lent: the rings of n lines, every length after them 0, and then the allpass rings in the store;
+-- the rows and then the allpass rings in the work memory
 pub record FrameFits (n f : ℕ) (r : Rings) (store work : ℕ) : Type 0 where
   pub few : n ≤ wall .lines
   pub some : 0 < n
@@ -73,6 +72,6 @@ pub record SettleFits (n f : ℕ) (r : Rings) (store work output : ℕ) : Type 0
   pub rings : linesLen n r + work ≡ store + ringsPlace n f
   pub out : output ≡ f
 
--- of what a frame came to, what is judged
+-- what a frame came to but for the cursors: whether all of it is finite, and its filters
 abbrev pub judgedOf : Stepped → Judged
 judgedOf x = record { ok = x .ok; filters = x .filters }

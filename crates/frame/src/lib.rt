@@ -1,8 +1,7 @@
 // A whole frame on lent memory, by steps over the lines that know neither how many there are nor how
 // long their rings are.
 //
-// Its contracts cite `specs/`: how a frame lies in the work memory, what the steps ask of the memory
-// lent, and what a frame leaves of it.
+// Its contracts cite `specs/`: what the steps ask of the memory lent, and what a frame leaves of it.
 mod steps;
 mod whole;
 
@@ -96,11 +95,11 @@ fn wall_frame(
         output,
     );
     let filters = r.filters;
-    moved_on(r.ok, f, rings, filters)
+    stepped_on(r.ok, f, rings, filters)
 }
 
 // What a frame came to, its filters `fs`, with the cursors moved on.
-fn moved_on(ok: bool, f: usize, rings: Rings, fs: [Filter; FILTERS]) -> Stepped
+fn stepped_on(ok: bool, f: usize, rings: Rings, fs: [Filter; FILTERS]) -> Stepped
     requires { ⌜ (f ≤ longestFrame) × AllWithin wall rings ⌝ }
     ensures { λ r. ⌜ r ≡ steppedOn f rings ok fs ⌝ }
 {
@@ -163,5 +162,5 @@ fn wall_close(
     ensures { λ _. ⌜ now (output .exit) ≡ finishedWithRoom (wall .lines) f rings fs (now (store .entry)) (now (work .entry)) (now (output .entry)) .output ⌝ }
 {
     let ok = finish_frame(LINES, f, rings, fs, store, work, output);
-    moved_on(ok, f, rings, fs)
+    stepped_on(ok, f, rings, fs)
 }

@@ -1,7 +1,7 @@
 // The steps of a frame over n lines, and what a frame leaves of their rings, cursors and filters.
 //
 // The length of a line's ring and its cursors stand at the line's place in arrays of sixteen, which a
-// unit of fewer lines pads.
+// unit of fewer lines pads with rings of length 0.
 use delay::Cursors;
 use samples::Samples;
 use unit::LINES;
@@ -55,23 +55,30 @@ pub(crate) fn put_lines(n: usize, f: usize, rings: Rings, rows: &[f32], store: &
     }
 }
 
-// Sets the allpass rings, which lie at the end of a store, to `end`.
-pub(crate) fn put_rings(end: &[f32], store: &mut [f32])
-    requires { ⌜ length (now end) ≤ length (now store) ⌝ }
-    ensures { λ _. ⌜ now (store .exit) ≡ take (length (now (store .entry)) - length (now (end .entry))) (now (store .entry)) ++ now (end .entry) ⌝ }
+// Sets the allpass rings, which lie at the end of a store, to `allpass`.
+pub(crate) fn put_rings(allpass: &[f32], store: &mut [f32])
+    requires { ⌜ length (now allpass) ≤ length (now store) ⌝ }
+    ensures { λ _. ⌜ now (store .exit) ≡ take (length (now (store .entry)) - length (now (allpass .entry))) (now (store .entry)) ++ now (allpass .entry) ⌝ }
 {
-    let at = store.len() - end.len();
-    stages::copy(end, &mut store[at..]);
+    let at = store.len() - allpass.len();
+    stages::copy(allpass, &mut store[at..]);
 }
 
-// Puts each row into its line's ring, and sets the allpass rings after the lines to `end`.
-pub(crate) fn settle(n: usize, f: usize, rings: Rings, rows: &[f32], end: &[f32], store: &mut [f32])
+// Puts each row into its line's ring, and sets the allpass rings after the lines to `allpass`.
+pub(crate) fn settle(
+    n: usize,
+    f: usize,
+    rings: Rings,
+    rows: &[f32],
+    allpass: &[f32],
+    store: &mut [f32],
+)
     requires { ⌜ LinesFit n f rings (length (now store)) (length (now rows)) ⌝ }
-    requires { ⌜ linesLen n rings + length (now end) ≡ length (now store) ⌝ }
-    ensures { λ _. ⌜ now (store .exit) ≡ settled n f rings (now (rows .entry)) (now (end .entry)) (now (store .entry)) ⌝ }
+    requires { ⌜ linesLen n rings + length (now allpass) ≡ length (now store) ⌝ }
+    ensures { λ _. ⌜ now (store .exit) ≡ settled n f rings (now (rows .entry)) (now (allpass .entry)) (now (store .entry)) ⌝ }
 {
     put_lines(n, f, rings, rows, store);
-    put_rings(end, store);
+    put_rings(allpass, store);
 }
 
 // The cursors of n lines after a frame.
@@ -87,7 +94,7 @@ pub(crate) fn move_lines(
     let mut ds = cs;
     for i in 0..n {
         let c = cs[i];
-        ds[i] = moved(f, ls[i], c);
+        ds[i] = moved_by(f, ls[i], c);
     }
     ds
 }
@@ -104,13 +111,13 @@ pub(crate) fn move_passes(
     let mut ds = cs;
     for i in 0..PASS_RINGS {
         let c = cs[i];
-        ds[i] = moved(f, ls[i], c);
+        ds[i] = moved_by(f, ls[i], c);
     }
     ds
 }
 
 // The cursors of a ring of length l, f samples on.
-fn moved(f: usize, l: usize, c: Cursors) -> Cursors
+fn moved_by(f: usize, l: usize, c: Cursors) -> Cursors
     requires { ⌜ (f ≤ longestRing) × (l ≤ longestRing) × (c .read .0 < l) × (c .write .0 < l) ⌝ }
     ensures { λ r. ⌜ r ≡ movedBy f l c ⌝ }
 {

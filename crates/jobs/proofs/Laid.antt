@@ -21,7 +21,7 @@ use Rattle.delay.specs.Calls.{both}
 use Rattle.iir.specs.declared.Filter.{Filter}
 use Rattle.unit.specs.UnitState.{UnitState}
 use Rattle.unit.specs.Model.{wall}
-use Rattle.unit.specs.Sizes.{lengths, storeLen}
+use Rattle.unit.specs.Layout.{lengths, storeLen}
 use Rattle.unit.specs.Range.{inRange, cursorsIn}
 use Rattle.unit.specs.Room.{unitRings, ringsHold}
 use Rattle.unit.proofs.Ranges.{lengths-long}

@@ -10,7 +10,7 @@ ghost use Prim.Native.Nat.{_<_};
 ghost use lib.ListN.{length};
 ghost use Rattle.unit.specs.UnitState.{ofState, toState};
 ghost use Rattle.unit.specs.Model.{wall};
-ghost use Rattle.unit.specs.Sizes.{jobsLen};
+ghost use Rattle.unit.specs.Layout.{jobsLen};
 ghost use Rattle.rows.specs.Workers.{WorkFits};
 ghost use Rattle.machine.specs.Jobs.{unitMarked, mixLaid};
 

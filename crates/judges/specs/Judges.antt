@@ -16,9 +16,10 @@ use Rattle.bands.specs.declared.Times.{Times}
 use Rattle.bands.specs.Times.{timesOk}
 use Rattle.unit.specs.UnitState.{UnitState}
 use Rattle.unit.specs.Model.{Model}
-use Rattle.unit.specs.Sizes.{lengths, storeLen, workLen, coefficientsLen}
+use Rattle.unit.specs.Layout.{lengths, storeLen, workLen, coefficientsLen}
 use Rattle.unit.specs.Fresh.{freshUnit}
 use Rattle.unit.specs.Range.{inRange}
+use Rattle.unit.specs.Room.{lentOk}
 
 abbrev pub storeOk : Model → UnitState → ℕ → Bool
 storeOk m u store = eqb store (storeLen m (lengths m u))
@@ -36,10 +37,6 @@ judged m u lent line turn =
 
 abbrev pub workOk : Model → UnitState → ℕ → Bool
 workOk m u work = eqb work (workLen m (u .settings .frame))
-
--- R2.23, R2.30: what a whole call and a close are lent, store, work and output
-abbrev pub lentOk : Model → UnitState → ℕ → ℕ → ℕ → Bool
-lentOk m u store work output = storeOk m u store && (workOk m u work && eqb output (u .settings .frame))
 
 -- R2.22: what an apply is given, coefficients and input
 abbrev pub givenOk : Model → UnitState → ℕ → ℕ → Bool

@@ -1,5 +1,5 @@
 -- The marks of an open frame: which of its jobs are done (R5.2).
-use Prim.Native.Nat.{ℕ, _+_}
+use Prim.Native.Nat.{ℕ}
 use mathlib.Core.Bool.{Bool, false}
 use mathlib.Core.List.{List}
 use lib.ListN.{getD, take}
@@ -7,16 +7,7 @@ use Rattle.samples.specs.Lists.{allFrom}
 use Rattle.unit.specs.UnitState.{UnitState}
 use Rattle.unit.specs.Model.{Model}
 
--- R5.2: read i's mark stands at i, and after the reads' the mix's, the lines' and the output's
-abbrev pub mixMark : Model → ℕ
-mixMark m = m .lines
-
-abbrev pub lineMark : Model → ℕ → ℕ
-lineMark m i = m .lines + 1 + i
-
-abbrev pub outputMark : Model → ℕ
-outputMark m = m .lines + m .lines + 1
-
+-- R5.2: whether the job of mark k is done
 abbrev pub marked : UnitState → ℕ → Bool
 marked u k = getD (u .held .marks) k false
 

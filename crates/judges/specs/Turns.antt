@@ -10,8 +10,10 @@ use Rattle.samples.specs.Answers.{orElse}
 use Rattle.bands.specs.declared.Times.{Times}
 use Rattle.unit.specs.UnitState.{UnitState}
 use Rattle.unit.specs.Model.{Model}
-use Rattle.judges.specs.Judges.{judged, storeOk, workOk, lentOk, givenOk, judgedGiven}
-use Rattle.judges.specs.Marks.{mixMark, lineMark, outputMark, marked, allDone, allRead}
+use Rattle.unit.specs.Room.{lentOk}
+use Rattle.unit.specs.Layout.{mixMark, lineMark, outputMark}
+use Rattle.judges.specs.Judges.{judged, storeOk, workOk, givenOk, judgedGiven}
+use Rattle.judges.specs.Marks.{marked, allDone, allRead}
 
 -- R2.24: open apply, 1 3 5 6 7 8
 abbrev pub judgedOpenApply : Model → UnitState → Times → List Float → List Float → ℕ → ℕ → Answer

@@ -8,8 +8,8 @@ ghost use mathlib.Core.Bool.{false};
 ghost use Prim.Native.Nat.{_+_, _≤_};
 ghost use lib.ListN.{getD, take};
 ghost use Rattle.unit.specs.Model.{wall};
-ghost use Rattle.unit.specs.Sizes.{jobsLen};
-ghost use Rattle.judges.specs.Marks.{lineMark, allDone};
+ghost use Rattle.unit.specs.Layout.{jobsLen, lineMark};
+ghost use Rattle.judges.specs.Marks.{allDone};
 
 // Whether mark k is set. There is one for each job.
 pub(crate) fn marked(marks: [bool; JOBS], k: usize) -> bool

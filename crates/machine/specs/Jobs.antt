@@ -17,16 +17,14 @@ use Rattle.hadamard.specs.Rows.{mixedRows}
 use Rattle.iir.specs.declared.Filter.{Filter}
 use Rattle.unit.specs.UnitState.{UnitState}
 use Rattle.unit.specs.Model.{Model}
-use Rattle.unit.specs.Sizes.{lengths, jobsLen}
+use Rattle.unit.specs.Layout.{lengths, jobsLen, mixMark, lineMark, outputMark}
 use Rattle.unit.specs.Room.{unitRings}
 use Rattle.unit.specs.Fresh.{noFrame}
-use Rattle.judges.specs.Marks.{mixMark, lineMark, outputMark}
 use Rattle.judges.specs.Turns.{judgedOpenApply, judgedOpenTail, judgedRead, judgedMix, judgedLine, judgedOutput, judgedClose, judgedAbandon}
-use Rattle.stages.specs.Frame.{passesIn}
+use Rattle.stages.specs.Frame.{stretch, allpassIn}
 use Rattle.stages.specs.Settle.{settled, moved}
 use Rattle.rows.specs.Rows.{Rows, rowsOf, laid}
 use Rattle.rows.specs.Parts.{lineLaid, lineEnds}
-use Rattle.rows.specs.Rings.{ringAt}
 use Rattle.outputs.specs.Parts.{outputLaid, outputEnds}
 use Rattle.frame.specs.Parts.{rowsFinite}
 use Rattle.machine.specs.Ending.{Memory, Ending, refused, quietly, cleared}
@@ -63,7 +61,7 @@ memoryOpened m w p =
     record {
       unit = unitOpened m u p;
       store = w .store;
-      work = openLaid m (u .settings .frame) (inputFor u p) (passesIn (lengths m u) (w .store));
+      work = openLaid m (u .settings .frame) (inputFor u p) (allpassIn (lengths m u) (w .store));
     }
 
 abbrev pub opened : Model → Memory → Play → Ending
@@ -92,7 +90,7 @@ jobDue m w outputJob = judgedOutput m (w .unit) (length (w .work))
 
 -- R5.11: step 2 of line i
 abbrev pub readRow : Model → UnitState → ℕ → List Float → List Float
-readRow m u i store = read (ringAt (lengths m u) 0 i store) (getD (u .cursors .lines) i (both 0) .read .0) (u .settings .frame)
+readRow m u i store = read (stretch (lengths m u) i store) (getD (u .cursors .lines) i (both 0) .read .0) (u .settings .frame)
 
 unfoldable pub readWork : Model → UnitState → ℕ → List Float → List Float → List Float
 readWork m u i store work =

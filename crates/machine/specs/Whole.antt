@@ -15,7 +15,7 @@ use Rattle.bands.specs.declared.Times.{Times}
 use Rattle.bands.specs.Tail.{tailCount, fallen}
 use Rattle.unit.specs.UnitState.{UnitState}
 use Rattle.unit.specs.Model.{Model}
-use Rattle.unit.specs.Sizes.{filtersLen}
+use Rattle.unit.specs.Layout.{filtersLen}
 use Rattle.unit.specs.Room.{unitRings}
 use Rattle.unit.specs.Fresh.{freshUnit}
 use Rattle.judges.specs.Judges.{judgedFresh, judgedReset, judgedApply, judgedTail}

@@ -15,7 +15,7 @@ use Rattle.samples.proofs.Laws.{split-and, join-and}
 use Rattle.samples.proofs.Turns.{middle}
 use Rattle.unit.specs.UnitState.{UnitState}
 use Rattle.unit.specs.Model.{wall}
-use Rattle.unit.specs.Sizes.{lengths, total, storeLen}
+use Rattle.unit.specs.Layout.{lengths, total, storeLen}
 use Rattle.judges.specs.Judges.{storeOk, workOk}
 use Rattle.stages.specs.Steps.{copied}
 use Rattle.stages.proofs.RowLaws.{copied-all}
@@ -24,7 +24,7 @@ use Rattle.rows.specs.Rows.{joinedRows}
 use Rattle.frame.proofs.RowJoins.{copy-join}
 use Rattle.rows.proofs.RowsOf.{work-fits}
 use Rattle.judges.proofs.Fits.{Due}
-use Rattle.stages.specs.Frame.{passesIn}
+use Rattle.stages.specs.Frame.{allpassIn}
 use Rattle.machine.specs.Jobs.{openLaid}
 
 -- an accepted open is lent a store and a work memory of its unit's frames
@@ -67,7 +67,7 @@ pub begin-laid : (u : UnitState) (store w x : List Float) (n : ℕ) → WorkFits
     let b = 34 * f in
     let a = length store - (length w - b) in
     x ≡ copied (take (length store - a) (drop a store)) (take (length w - b) (drop b w))
-    → putMid b (length w - b) w x ≡ openLaid wall f (replicate f +0) (passesIn (lengths wall u) store)
+    → putMid b (length w - b) w x ≡ openLaid wall f (replicate f +0) (allpassIn (lengths wall u) store)
 unfolding openLaid joinedRows
 begin-laid u store w x n h e z ex =
     let f = u .settings .frame in

@@ -5,10 +5,10 @@ use lib.ListN.{replicate}
 use Rattle.samples.specs.Binary32.{+0}
 use Rattle.unit.specs.UnitState.{UnitState}
 use Rattle.unit.specs.Model.{wall}
-use Rattle.unit.specs.Sizes.{lengths}
-use Rattle.stages.specs.Frame.{passesIn}
+use Rattle.unit.specs.Layout.{lengths}
+use Rattle.stages.specs.Frame.{allpassIn}
 use Rattle.machine.specs.Jobs.{openLaid}
 
 -- R5.8: all but the input, the allpass rings as they are in the store, and else +0
 abbrev pub silentLaid : UnitState → List Float → List Float
-silentLaid u store = openLaid wall (u .settings .frame) (replicate (u .settings .frame) +0) (passesIn (lengths wall u) store)
+silentLaid u store = openLaid wall (u .settings .frame) (replicate (u .settings .frame) +0) (allpassIn (lengths wall u) store)

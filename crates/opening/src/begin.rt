@@ -10,7 +10,7 @@ ghost use mathlib.Core.Path.{_≡_};
 ghost use lib.ListN.{length};
 ghost use Rattle.unit.specs.UnitState.{ofState, toState};
 ghost use Rattle.unit.specs.Model.{wall};
-ghost use Rattle.unit.specs.Sizes.{lengths, storeLen};
+ghost use Rattle.unit.specs.Layout.{lengths, storeLen};
 ghost use Rattle.rows.specs.Workers.{WorkFits};
 ghost use Rattle.machine.specs.Jobs.{unitOpen};
 ghost use Rattle.opening.specs.Workers.{silentLaid};

@@ -9,6 +9,7 @@ use jobs::job_read;
 use libc::STDOUT_FILENO;
 use samples::and;
 use samples::number;
+use unit::ALLPASS_FLOATS;
 use unit::COEFFICIENTS;
 use unit::DELAYS_AND_RINGS;
 use unit::FILTERS;
@@ -19,7 +20,6 @@ use unit::MIX_MARK;
 use unit::OUTPUT_MARK;
 use unit::Outcome;
 use unit::PER_FILTER;
-use unit::RINGS;
 use unit::ROWS;
 use unit::State;
 
@@ -31,7 +31,7 @@ const FRAME: usize = 128;
 // The memory of a unit of such frames.
 const STORE: usize = DELAYS_AND_RINGS + LINES * FRAME;
 
-const WORK: usize = ROWS * FRAME + RINGS;
+const WORK: usize = ROWS * FRAME + ALLPASS_FLOATS;
 
 // Where b0 stands among the coefficients of a filter.
 const B0: usize = 2;

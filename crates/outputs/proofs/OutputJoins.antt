@@ -11,9 +11,9 @@ use Rattle.samples.specs.Binary32.{+0}
 use Rattle.samples.specs.Lists.{over}
 use Rattle.samples.proofs.Turns.{middle}
 use Rattle.samples.proofs.Lists.{cut, part-long, last-part, first-of}
-use Rattle.delay.specs.declared.Cursors.{Cursors}
 use Rattle.delay.specs.Calls.{both}
-use Rattle.unit.specs.Sizes.{total}
+use Rattle.unit.specs.declared.AllpassRings.{AllpassRings}
+use Rattle.unit.specs.Layout.{total}
 use Rattle.iir.specs.declared.Filter.{Filter}
 use Rattle.iir.specs.Runs.{bandsOut, bandsEnd}
 use Rattle.stages.specs.Lines.{three, threeOf, sumRows}
@@ -23,7 +23,7 @@ use Rattle.allpass.specs.Stages.{staged}
 use Rattle.stages.specs.Steps.{divided}
 use Rattle.outputs.specs.Workers.{bothPassed}
 use Rattle.allpass.proofs.Stages.{length-passOut, pass-rings, staged-laid}
-use Rattle.rows.proofs.RowJoins.{total-next, total-front}
+use Rattle.unit.proofs.Totals.{total-next, total-front}
 
 -- ---- the sum of the rows read, after all rows, divided
 
@@ -60,11 +60,16 @@ module _ (ps : List ℕ) (rings : List Float) (l : length rings ≡ total ps) wh
 
 -- ---- both stages over the row before them
 
-pub passes-join : (f : ℕ) (ps : List ℕ) (qs : List Cursors) (w w₁ w₂ : List Float) → f % 4 ≡ 0 → length ps ≡ 4 → length w ≡ f + total ps
+pub passes-join : (f : ℕ) (v : AllpassRings) (w w₁ w₂ : List Float)
+    → let ps = v .lengths in
+    let qs = v .cursors in
+    f % 4 ≡ 0 → length ps ≡ 4 → length w ≡ f + total ps
     → w₁ ≡ staged f f (getD ps 0 0) (getD ps 1 0) (getD qs 0 (both 0)) (getD qs 1 (both 0)) w
     → w₂ ≡ staged f (f + getD ps 0 0 + getD ps 1 0) (getD ps 2 0) (getD ps 3 0) (getD qs 2 (both 0)) (getD qs 3 (both 0)) w₁
-    → w₂ ≡ bothPassed f ps qs (drop f w) (take f w)
-passes-join f ps qs w w₁ w₂ fours four l e₁ e₂ =
+    → w₂ ≡ bothPassed f v (drop f w) (take f w)
+passes-join f v w w₁ w₂ fours four l e₁ e₂ =
+    let ps = v .lengths in
+    let qs = v .cursors in
     let n : ℕ = f / 4 in
     let at = f + getD ps 0 0 + getD ps 1 0 in
     let row : List Float = take f w in
@@ -86,8 +91,8 @@ passes-join f ps qs w w₁ w₂ fours four l e₁ e₂ =
 
 -- ---- n rows read, n mixed, the output and the rings: the mean, both stages, and the tone's filters
 
-pub output-join : (n f : ℕ) (d : Float) (ps : List ℕ) (qs : List Cursors) (fs gs : List Filter) (w x x₂ x₃ : List Float)
-    → f % 4 ≡ 0 → length w ≡ n * f + n * f + f + total ps
+pub output-join : (n f : ℕ) (d : Float) (v : AllpassRings) (fs gs : List Filter) (w x x₂ x₃ : List Float)
+    → f % 4 ≡ 0 → length w ≡ n * f + n * f + f + total (v .lengths)
     → let at = n * f + n * f in
     let k = 3 * n in
     let q = take (at + f - 0) (drop 0 w) in
@@ -95,13 +100,15 @@ pub output-join : (n f : ℕ) (d : Float) (ps : List ℕ) (qs : List Cursors) (f
     let p = take (length w₁ - at) (drop at w₁) in
     let w₂ = putMid at (length w₁ - at) w₁ x₂ in
     let row = take (at + f - at) (drop at w₂) in
-    let r = outputRow n f d ps qs fs (drop (at + f) w) (take (n * f) w) in
+    let r = outputRow n f d (v .lengths) (v .cursors) fs (drop (at + f) w) (take (n * f) w) in
     length x ≡ length q → x ≡ take at q ++ divided d (sumRows f n (replicate f +0) (take (n * f) q))
-    → x₂ ≡ bothPassed f ps qs (drop f p) (take f p)
+    → x₂ ≡ bothPassed f v (drop f p) (take f p)
     → (gs ≡ over k (threeOf (bandsEnd (three k fs) row)) fs) × (x₃ ≡ bandsOut (three k fs) row)
     → (gs ≡ over k (r .filters) fs) × (putMid at (at + f - at) w₂ x₃ ≡ take at w ++ (r .out ++ r .rings))
 unfolding outputRow bandsOut
-output-join n f d ps qs fs gs w x x₂ x₃ fours l kept ex e₂ e₃ =
+output-join n f d v fs gs w x x₂ x₃ fours l kept ex e₂ e₃ =
+    let ps = v .lengths in
+    let qs = v .cursors in
     let m = n * f in
     let at = m + m in
     let front : List Float = take at w in

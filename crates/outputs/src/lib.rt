@@ -10,6 +10,7 @@ use delay::Cursors;
 use iir::Filter;
 use rows::output_fits;
 use rows::work_for;
+use unit::AllpassRings;
 use unit::DIVISOR;
 use unit::FILTERS;
 use unit::LINES;
@@ -25,8 +26,8 @@ ghost use Rattle.rows.specs.Workers.{WorkFits};
 ghost use Rattle.outputs.specs.Steps.{outputMade, outputAfter};
 ghost use Rattle.outputs.specs.Parts.{outputLaid, outputEnds};
 
-// Step 5 of n lines: `rows` are n rows read, n mixed, the output and the allpass rings. Gives the
-// filters after it. Where the rows don't fit nothing is done (R4.10 to R4.12).
+// Step 5 of n lines: `rows` are n rows read, n mixed, the output and the allpass rings, of `rings` those.
+// Gives the filters after it. Where the rows don't fit nothing is done (R4.10 to R4.12).
 pub fn output_row(
     n: usize,
     f: usize,
@@ -39,11 +40,10 @@ pub fn output_row(
     ensures { λ _. ⌜ now (rows .exit) ≡ outputMade n f divisor rings fs (now (rows .entry)) ⌝ }
 {
     let ps = rings.passes.lengths;
-    let qs = rings.passes.cursors;
     if !output_fits(n, f, ps, rows.len()) {
         return fs;
     }
-    output_in(n, f, divisor, ps, qs, fs, rows)
+    output_in(n, f, divisor, rings.passes, fs, rows)
 }
 
 // Step 5 on a work memory that holds the rows read and the allpass rings: makes the output, and gives
@@ -74,5 +74,9 @@ fn wall_output(
     ensures { λ r. ⌜ r ≡ outputEnds wall f qs fs true (now (work .entry)) ⌝ }
     ensures { λ _. ⌜ now (work .exit) ≡ outputLaid wall f qs fs true (now (work .entry)) ⌝ }
 {
-    output_in(LINES, f, DIVISOR, PASS_LENGTHS, qs, fs, &mut work[f..])
+    let passes = AllpassRings {
+        lengths: PASS_LENGTHS,
+        cursors: qs,
+    };
+    output_in(LINES, f, DIVISOR, passes, fs, &mut work[f..])
 }

@@ -1,11 +1,10 @@
 // The output of the rows read: their mean, both allpass stages, and the tone's filters.
 use crate::sums::sum_row;
-use delay::Cursors;
 use iir::Filter;
 use rows::three_at;
+use unit::AllpassRings;
 use unit::BANDS;
 use unit::FILTERS;
-use unit::PASS_RINGS;
 ghost use mathlib.Core.Path.{_≡_};
 ghost use mathlib.Core.List.{_++_};
 ghost use Prim.Native.Nat.{_+_, _*_, _%_, _≤_};
@@ -13,20 +12,17 @@ ghost use lib.ListN.{length, take, drop};
 ghost use Rattle.samples.specs.Lists.{over};
 ghost use Rattle.delay.specs.Calls.{longestRing};
 ghost use Rattle.unit.specs.Model.{wall};
-ghost use Rattle.unit.specs.Sizes.{total};
+ghost use Rattle.unit.specs.Layout.{total};
 ghost use Rattle.outputs.specs.Steps.{outputFrom};
 ghost use Rattle.outputs.specs.Workers.{bothPassed};
 
 // Both allpass stages over a row, after which their four rings lie.
-pub(crate) fn pass_both(
-    f: usize,
-    ps: [usize; PASS_RINGS],
-    qs: [Cursors; PASS_RINGS],
-    rows: &mut [f32],
-)
-    requires { ⌜ (f ≤ longestRing) × (f % 4 ≡ 0) × (length (now rows) ≡ f + total ps) ⌝ }
-    ensures { λ _. ⌜ now (rows .exit) ≡ bothPassed f ps qs (drop f (now (rows .entry))) (take f (now (rows .entry))) ⌝ }
+pub(crate) fn pass_both(f: usize, passes: AllpassRings, rows: &mut [f32])
+    requires { ⌜ (f ≤ longestRing) × (f % 4 ≡ 0) × (length (now rows) ≡ f + total (passes .lengths)) ⌝ }
+    ensures { λ _. ⌜ now (rows .exit) ≡ bothPassed f passes (drop f (now (rows .entry))) (take f (now (rows .entry))) ⌝ }
 {
+    let ps = passes.lengths;
+    let qs = passes.cursors;
     let lx = ps[0];
     let ly = ps[1];
     let cx = qs[0];
@@ -46,19 +42,18 @@ pub(crate) fn output_in(
     n: usize,
     f: usize,
     divisor: f32,
-    ps: [usize; PASS_RINGS],
-    qs: [Cursors; PASS_RINGS],
+    passes: AllpassRings,
     fs: [Filter; FILTERS],
     rows: &mut [f32],
 ) -> [Filter; FILTERS]
-    requires { ⌜ (n ≤ wall .lines) × (f ≤ longestRing) × (f % 4 ≡ 0) × (length (now rows) ≡ n * f + n * f + f + total ps) ⌝ }
-    ensures { λ r. ⌜ r ≡ over (3 * n) (outputFrom n f divisor ps qs fs (now (rows .entry)) .filters) fs ⌝ }
-    ensures { λ _. ⌜ now (rows .exit) ≡ take (n * f + n * f) (now (rows .entry)) ++ (outputFrom n f divisor ps qs fs (now (rows .entry)) .out ++ outputFrom n f divisor ps qs fs (now (rows .entry)) .rings) ⌝ }
+    requires { ⌜ (n ≤ wall .lines) × (f ≤ longestRing) × (f % 4 ≡ 0) × (length (now rows) ≡ n * f + n * f + f + total (passes .lengths)) ⌝ }
+    ensures { λ r. ⌜ r ≡ over (3 * n) (outputFrom n f divisor passes fs (now (rows .entry)) .filters) fs ⌝ }
+    ensures { λ _. ⌜ now (rows .exit) ≡ take (n * f + n * f) (now (rows .entry)) ++ (outputFrom n f divisor passes fs (now (rows .entry)) .out ++ outputFrom n f divisor passes fs (now (rows .entry)) .rings) ⌝ }
 {
     let m = n * f;
     let at = m + m;
     let e = at + f;
     sum_row(n, f, divisor, &mut rows[0..e]);
-    pass_both(f, ps, qs, &mut rows[at..]);
+    pass_both(f, passes, &mut rows[at..]);
     three_at(BANDS * n, fs, &mut rows[at..e])
 }

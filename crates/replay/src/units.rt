@@ -10,11 +10,11 @@ use crate::tape::same_row;
 use audio_buffer::AudioEffectState;
 use bands::Times;
 use samples::Frames;
+use unit::ALLPASS_FLOATS;
 use unit::COEFFICIENTS;
 use unit::DELAYS_AND_RINGS;
 use unit::LINES;
 use unit::Outcome;
-use unit::RINGS;
 use unit::ROWS;
 use unit::State;
 
@@ -31,7 +31,7 @@ pub(crate) fn unit(t: Tape, bytes: &mut [u8]) -> Tape {
             t,
             &mut [0.0f32; 4],
             &mut [0.0f32; DELAYS_AND_RINGS + LINES * 4],
-            &mut [0.5f32; ROWS * 4 + RINGS],
+            &mut [0.5f32; ROWS * 4 + ALLPASS_FLOATS],
             &mut [0.5f32; 4],
             bytes,
         );
@@ -41,7 +41,7 @@ pub(crate) fn unit(t: Tape, bytes: &mut [u8]) -> Tape {
             t,
             &mut [0.0f32; 12],
             &mut [0.0f32; DELAYS_AND_RINGS + LINES * 12],
-            &mut [0.5f32; ROWS * 12 + RINGS],
+            &mut [0.5f32; ROWS * 12 + ALLPASS_FLOATS],
             &mut [0.5f32; 12],
             bytes,
         );
@@ -51,7 +51,7 @@ pub(crate) fn unit(t: Tape, bytes: &mut [u8]) -> Tape {
             t,
             &mut [0.0f32; 128],
             &mut [0.0f32; DELAYS_AND_RINGS + LINES * 128],
-            &mut [0.5f32; ROWS * 128 + RINGS],
+            &mut [0.5f32; ROWS * 128 + ALLPASS_FLOATS],
             &mut [0.5f32; 128],
             bytes,
         );
@@ -60,7 +60,7 @@ pub(crate) fn unit(t: Tape, bytes: &mut [u8]) -> Tape {
         t,
         &mut [0.0f32; 1024],
         &mut [0.0f32; DELAYS_AND_RINGS + LINES * 1024],
-        &mut [0.5f32; ROWS * 1024 + RINGS],
+        &mut [0.5f32; ROWS * 1024 + ALLPASS_FLOATS],
         &mut [0.5f32; 1024],
         bytes,
     )

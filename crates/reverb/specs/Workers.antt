@@ -20,13 +20,13 @@ use Rattle.machine.specs.Ending.{Ending, lend}
 use Rattle.machine.specs.Whole.{played}
 
 -- the unit after what a frame came to
-abbrev pub stepped : UnitState → Stepped → ℤ → UnitState
-stepped u x count =
+abbrev pub unitStepped : UnitState → Stepped → ℤ → UnitState
+unitStepped u x count =
     record { settings = u .settings; cursors = record { lines = x .lines; passes = x .passes }; count = count; filters = x .filters; held = u .held }
 
 -- R4.15, R4.21, R4.22: 9 unless all of it is finite
 abbrev pub playedBy : UnitState → Stepped → ℤ → Outcome
-playedBy u x count = cond (x .ok) (outcome Accepted (stepped u x count) (verdictOf count)) (outcome NotFinite u TailComplete)
+playedBy u x count = cond (x .ok) (outcome Accepted (unitStepped u x count) (verdictOf count)) (outcome NotFinite u TailComplete)
 
 -- a frame through the filters fs, the input at the front of the work memory
 abbrev pub playing : State → Bool → List Filter → ℤ → List Float → List Float → List Float → Ending

@@ -17,11 +17,11 @@ ghost use Rattle.unit.specs.UnitState.{ofState, toState};
 ghost use Rattle.unit.specs.Model.{wall};
 ghost use Rattle.unit.specs.Room.{unitRings, roomOk};
 ghost use Rattle.machine.specs.Ending.{outcomeOf};
-ghost use Rattle.reverb.specs.Workers.{stepped, playedBy, playing};
+ghost use Rattle.reverb.specs.Workers.{unitStepped, playedBy, playing};
 
 // The unit after an accepted frame: its rings moved on, and the frame's filters and count.
 pub(crate) fn moved_on(s: State, frame: Stepped, count: Frames) -> State
-    ensures { λ r. ⌜ r ≡ toState (stepped (ofState s) frame (count .0)) ⌝ }
+    ensures { λ r. ⌜ r ≡ toState (unitStepped (ofState s) frame (count .0)) ⌝ }
 {
     let lines = frame.lines;
     let passes = frame.passes;

@@ -2,12 +2,10 @@
 use mathlib.Core.Path.{_≡_, refl, sym, ap, _∙_}
 use mathlib.Core.Bool.{true}
 use mathlib.Core.List.{List}
-use Prim.Native.Nat.{ℕ, zero, suc, _+_, _*_, _-_, _<_, _≤_}
-use native.Mathlib.Nat.{zero-add, add-zero}
+use Prim.Native.Nat.{ℕ, suc, _+_, _*_, _-_, _<_, _≤_}
 use native.Mathlib.Omega.{arith}
 use lib.Ieee.{Float}
 use lib.ListN.{length, getD, take, drop}
-use lib.Seq.{drop-drop}
 use lib.Dec.{ltb, eqb}
 use borrow.Author.Tests.{ltb-true, eqb-true}
 use borrow.Rule.Slice.PartMut.{putMid}
@@ -22,30 +20,18 @@ use Rattle.delay.specs.Ring.{read}
 use Rattle.delay.proofs.Laws.{Moves, get-ok}
 use Rattle.unit.specs.declared.Rings.{Rings}
 use Rattle.unit.specs.Model.{wall}
-use Rattle.unit.specs.Sizes.{total, storeLen}
+use Rattle.unit.specs.Layout.{total, storeLen}
 use Rattle.unit.specs.Range.{cursorsIn}
 use Rattle.unit.specs.Room.{ringsHold}
-use Rattle.stages.proofs.RowLaws.{total-more}
+use Rattle.stages.specs.Frame.{stretch}
 use Rattle.rows.specs.Fits.{workFor}
 use Rattle.rows.specs.Workers.{WorkFits}
 use Rattle.rows.specs.Rows.{rowsOf}
 use Rattle.unit.proofs.Totals.{total-next, total-front}
 use Rattle.rows.proofs.RowsOf.{work-fits}
 use Rattle.rows.proofs.LineLaid.{read-set, read-at}
-use Rattle.rows.specs.Rings.{ringAt}
 use Rattle.rows.specs.Reads.{readIn, readLaid, lineRoom}
 use Rattle.unit.proofs.Ranges.{cursors-at, holds-at}
-
--- ring i from line j on begins after the i rings before it
-ring-from : (ls : List ℕ) (i j : ℕ) (store : List Float) → ringAt ls j i store ≡ take (getD ls (j + i) 0) (drop (total (take i (drop j ls))) store)
-unfolding total
-ring-from ls zero j store = rw add-zero refl
-ring-from ls (suc i) j store =
-    let e : j + 1 + i ≡ j + suc i = omega arith in
-    ring-from ls i (j + 1) (drop (getD ls j 0) store) ∙ rw (e, total-more i j ls, ← drop-drop (total (take i (drop (j + 1) ls))) (getD ls j 0) store) refl
-
-pub ring-at : (ls : List ℕ) (i : ℕ) (store : List Float) → ringAt ls 0 i store ≡ take (getD ls i 0) (drop (total (take i ls)) store)
-ring-at ls i store = rw zero-add at (ring-from ls i 0 store)
 
 -- there is such a line, and the memory fits
 pub line-fits : (f : ℕ) (ls : List ℕ) (i store work : ℕ) → lineRoom wall f ls i store work ≡ true
@@ -90,25 +76,25 @@ module _ (f : ℕ) (v : Rings) (i : ℕ) (store w : List Float) (h : i < 16) (al
       length x ≡ length (take (b + f - b) (drop b w))
       → x ≡ getOut (take (a + l - a) (drop a store)) c (take (b + f - b) (drop b w))
       → putMid b (b + f - b) w x ≡ readLaid wall f v i true store w
-  unfolding readLaid rowsOf
+  unfolding readLaid rowsOf stretch
   read-laid a x ea kept ex =
       let b = f + i * f in
       let whole : length x ≡ f = kept ∙ lent-long b w f row-within in
-      let ring : take (a + l - a) (drop a store) ≡ ringAt ls 0 i store = lent a l store ∙ rw (ea, ring-at ls i store) refl in
-      let got : x ≡ getOut (ringAt ls 0 i store) c (row f i (take (16 * f) (drop f w))) = ex ∙ rw (ring, lent b f w, read-at f i w h fits) refl in
+      let ring : take (a + l - a) (drop a store) ≡ stretch ls i store = lent a l store ∙ rw ea refl in
+      let got : x ≡ getOut (stretch ls i store) c (row f i (take (16 * f) (drop f w))) = ex ∙ rw (ring, lent b f w, read-at f i w h fits) refl in
       come-back b w f x whole ∙ read-set f i w h fits x whole ∙ rw got refl
 
   -- a ring whose cursors are within it gives the row whole
-  pub read-given : cursorsIn ls (v .lines .cursors) ≡ true → readIn f v i store (rowsOf 16 f w) ≡ read (ringAt ls 0 i store) (c .read .0) f
-  unfolding rowsOf
+  pub read-given : cursorsIn ls (v .lines .cursors) ≡ true → readIn f v i store (rowsOf 16 f w) ≡ read (stretch ls i store) (c .read .0) f
+  unfolding rowsOf stretch
   read-given in-rings =
       let row′ = row f i (take (16 * f) (drop f w)) in
       let within = cursors-at ls (v .lines .cursors) in-rings i (omega (arith, fits .some, ring-holds .0)) in
-      let lr : length (ringAt ls 0 i store) ≡ l = ap length (ring-at ls i store) ∙ part-long start store l ring-within in
+      let lr : length (stretch ls i store) ≡ l = part-long start store l ring-within in
       let lo : length row′ ≡ f = ap length (sym (read-at f i w h fits)) ∙ part-long (f + i * f) w f row-within in
       let m : Moves l c f = record {
         ready = record { some = omega (arith, fits .some, ring-holds .0); small = ring-holds .1; reads = within .read; writes = within .write };
         some = fits .some;
         fits = ring-holds .0;
       } in
-      get-ok (ringAt ls 0 i store) row′ c (rw (lr, lo) m) .1 ∙ ap (read (ringAt ls 0 i store) (c .read .0)) lo
+      get-ok (stretch ls i store) row′ c (rw (lr, lo) m) .1 ∙ ap (read (stretch ls i store) (c .read .0)) lo

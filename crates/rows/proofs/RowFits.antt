@@ -11,9 +11,9 @@ use lib.ListN.{length, getD, take}
 use lib.Seq.{take-all}
 use borrow.Author.Tests.{leb-true, le-leb, eqb-true, eqb-false, eq-eqb, ne-eqb}
 use Rattle.samples.proofs.Laws.{split-and}
-use Rattle.unit.specs.Sizes.{total}
+use Rattle.unit.specs.Layout.{total}
 use Rattle.rows.specs.Fits.{fewRows, linesFit, outputFits}
-use Rattle.rows.proofs.RowJoins.{total-next, total-front}
+use Rattle.unit.proofs.Totals.{total-next, total-front}
 
 -- ---- rows of few lines
 

@@ -1,11 +1,11 @@
 -- How the steps on the lines' rows join: what each is lent, what comes back, and what all of it is then. Assumes nothing.
 use mathlib.Core.Path.{_≡_, refl, sym, ap, _∙_}
 use mathlib.Core.Bool.{Bool, true, false, cond}
-use mathlib.Core.List.{List, [], _∷_, _++_, append-assoc}
-use Prim.Native.Nat.{ℕ, zero, suc, _+_, _*_, _-_, _<_, _≤_}
+use mathlib.Core.List.{List, _++_, append-assoc}
+use Prim.Native.Nat.{ℕ, _+_, _*_, _-_, _<_}
 use native.Mathlib.Omega.{arith}
 use lib.Ieee.{Float}
-use lib.ListN.{length, getD, take, drop, length-append, length-drop, take-append-drop}
+use lib.ListN.{length, take, drop, length-append, length-drop, take-append-drop}
 use lib.Seq.{take-at, drop-at, length-take-le}
 use borrow.Rule.Slice.PartMut.{putMid}
 use Rattle.samples.specs.declared.Answer.{Answer}
@@ -14,7 +14,6 @@ use Rattle.samples.specs.Answers.{accept}
 use Rattle.samples.proofs.Lists.{part-long, to-end, last-part}
 use Rattle.hadamard.specs.Rows.{mixedRows, judgedRows, rowsMixed}
 use Rattle.hadamard.proofs.Laws.{rows-accepted, rows-joined}
-use Rattle.unit.specs.Sizes.{total}
 use Rattle.iir.specs.declared.Filter.{Filter}
 use Rattle.stages.specs.Lines.{bandEnds, addRows}
 use Rattle.stages.specs.Frame.{lineRows}
@@ -78,18 +77,3 @@ module _ (n f : ℕ) (k : Float) (tail : Bool) (fs : List Filter) (input reads :
   pub filters-long : length (lineRows n f k tail fs input reads .filters) ≡ 3 * n
   unfolding lineRows
   filters-long = length-bandEnds f n 0 fs (mixedRows n f k reads)
-
--- ---- the allpass rings, of the lengths ps
-
-pub total-next : (k : ℕ) (ps : List ℕ) → total (take (suc k) ps) ≡ total (take k ps) + getD ps k 0
-unfolding total
-total-next zero [] = refl
-total-next (suc k) [] = refl
-total-next zero (p ∷ ps) = omega arith
-total-next (suc k) (p ∷ ps) = omega (arith, total-next k ps)
-
-pub total-front : (k : ℕ) (ps : List ℕ) → total (take k ps) ≤ total ps
-unfolding total
-total-front zero ps = omega arith
-total-front (suc k) [] = omega arith
-total-front (suc k) (p ∷ ps) = omega (arith, total-front k ps)

@@ -12,8 +12,7 @@ use Rattle.samples.specs.Sizes.{frameOk}
 use Rattle.samples.proofs.Laws.{split-and, frame-of}
 use Rattle.samples.proofs.Lists.{cut}
 use Rattle.unit.specs.Model.{wall}
-use Rattle.unit.specs.Sizes.{total, workLen}
-use Rattle.rows.specs.Rows.{ringsPlace}
+use Rattle.unit.specs.Layout.{total, workLen, ringsPlace}
 use Rattle.rows.specs.Fits.{workFor}
 use Rattle.rows.specs.Workers.{WorkFits}
 

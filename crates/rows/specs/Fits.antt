@@ -6,8 +6,7 @@ use lib.Dec.{leb, eqb}
 use Rattle.samples.specs.Sizes.{frameOk}
 use Rattle.delay.specs.Calls.{longestRing}
 use Rattle.unit.specs.Model.{Model, wall}
-use Rattle.unit.specs.Sizes.{total, workLen}
-use Rattle.rows.specs.Rows.{outputPlace}
+use Rattle.unit.specs.Layout.{total, workLen, outputPlace}
 
 -- from one line to all of the wall unit's, and rows no longer than a ring may be
 unfoldable pub fewRows : ℕ → ℕ → Bool

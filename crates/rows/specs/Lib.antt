@@ -1,5 +1,4 @@
 pub mod Rows
-pub mod Rings
 pub mod Fits
 pub mod Reads
 pub mod Steps

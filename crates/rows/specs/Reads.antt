@@ -9,15 +9,15 @@ use Rattle.samples.specs.Lists.{row, setRow}
 use Rattle.delay.specs.Calls.{both, getOut}
 use Rattle.unit.specs.declared.Rings.{Rings}
 use Rattle.unit.specs.Model.{Model}
-use Rattle.unit.specs.Sizes.{storeLen}
+use Rattle.unit.specs.Layout.{storeLen}
 use Rattle.unit.specs.Room.{ringsHold}
+use Rattle.stages.specs.Frame.{stretch}
 use Rattle.rows.specs.Rows.{Rows, rowsOf, laid}
 use Rattle.rows.specs.Fits.{workFor}
-use Rattle.rows.specs.Rings.{ringAt}
 
 -- R4.5: step 2 of line i of the rings r. A row that its ring doesn't give stays as it is (R3.37)
 abbrev pub readIn : ℕ → Rings → ℕ → List Float → Rows → List Float
-readIn f r i store rows = getOut (ringAt (r .lines .lengths) 0 i store) (getD (r .lines .cursors) i (both 0)) (row f i (rows .reads))
+readIn f r i store rows = getOut (stretch (r .lines .lengths) i store) (getD (r .lines .cursors) i (both 0)) (row f i (rows .reads))
 
 -- the work memory after it, if there is `room` for such a frame
 unfoldable pub readLaid : Model → ℕ → Rings → ℕ → Bool → List Float → List Float → List Float

@@ -1,8 +1,9 @@
 -- R1.22: how the work memory of a frame lies.
-use Prim.Native.Nat.{ℕ, _+_, _*_}
+use Prim.Native.Nat.{ℕ, _*_}
 use mathlib.Core.List.{List, _++_}
 use lib.Ieee.{Float}
 use lib.ListN.{take, drop}
+use Rattle.unit.specs.Layout.{mixedPlace, outputPlace, ringsPlace}
 
 -- the work memory: the input, the rows read, the rows mixed, which become those to put (R1.23), the output and the allpass rings
 pub record Rows : Type 0 where
@@ -11,16 +12,6 @@ pub record Rows : Type 0 where
   pub mixed : List Float
   pub output : List Float
   pub rings : List Float
-
--- where the rows mixed, the output and the allpass rings begin, of n lines and a frame of f
-abbrev pub mixedPlace : ℕ → ℕ → ℕ
-mixedPlace n f = f + n * f
-
-abbrev pub outputPlace : ℕ → ℕ → ℕ
-outputPlace n f = f + n * f + n * f
-
-abbrev pub ringsPlace : ℕ → ℕ → ℕ
-ringsPlace n f = f + n * f + n * f + f
 
 -- the work memory of n lines and a frame of f cut so
 unfoldable pub rowsOf : ℕ → ℕ → List Float → Rows

@@ -6,9 +6,8 @@ use Rattle.samples.specs.Sizes.{longestFrame}
 use Rattle.iir.specs.declared.Filter.{Filter}
 use Rattle.iir.specs.declared.Bands.{Bands}
 use Rattle.unit.specs.Model.{Model}
-use Rattle.unit.specs.Sizes.{total}
+use Rattle.unit.specs.Layout.{total, ringsPlace}
 use Rattle.stages.specs.Lines.{three, threeOf}
-use Rattle.rows.specs.Rows.{ringsPlace}
 
 -- a work memory is one of frames of f samples
 pub record WorkFits (m : Model) (f work : ℕ) : Type 0 where

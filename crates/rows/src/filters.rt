@@ -14,7 +14,7 @@ ghost use lib.ListN.{length, drop};
 ghost use Rattle.samples.specs.Lists.{over};
 ghost use Rattle.iir.specs.Runs.{bandsOut, bandsEnd};
 ghost use Rattle.unit.specs.Model.{wall};
-ghost use Rattle.unit.specs.Sizes.{filtersLen};
+ghost use Rattle.unit.specs.Layout.{filtersLen};
 ghost use Rattle.bank.specs.Lines.{linesOut, linesEnd};
 ghost use Rattle.stages.specs.Lines.{bandRows, bandEnds, three, threeOf};
 ghost use Rattle.rows.specs.Workers.{fourFrom, threesOf};

@@ -8,7 +8,7 @@ use unit::work_ok;
 ghost use mathlib.Core.Path.{_≡_};
 ghost use lib.Dec.{eqb};
 ghost use Rattle.unit.specs.Model.{wall};
-ghost use Rattle.unit.specs.Sizes.{total};
+ghost use Rattle.unit.specs.Layout.{total};
 ghost use Rattle.rows.specs.Fits.{fewRows, linesFit, outputFits, workFor};
 
 // From one line to all of the wall unit's, and rows no longer than a ring may be.

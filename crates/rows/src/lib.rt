@@ -25,11 +25,12 @@ use unit::MIXED_ROW;
 ghost use mathlib.Core.Path.{_≡_};
 ghost use mathlib.Core.Bool.{true, _&&_};
 ghost use mathlib.Core.List.{_++_};
-ghost use Prim.Native.Nat.{_+_, _*_, _<_, _≤_};
+ghost use Prim.Native.Nat.{_*_, _<_, _≤_};
 ghost use lib.Dec.{ltb};
 ghost use lib.ListN.{length, take, drop};
 ghost use Rattle.delay.specs.Calls.{longestRing};
 ghost use Rattle.unit.specs.Model.{wall};
+ghost use Rattle.unit.specs.Layout.{outputPlace};
 ghost use Rattle.rows.specs.Fits.{workFor};
 ghost use Rattle.rows.specs.Workers.{WorkFits};
 ghost use Rattle.rows.specs.Steps.{linesIn, linesLaid, linesEnds};
@@ -63,7 +64,7 @@ fn lines_in(
     fs: [Filter; FILTERS],
     rows: &mut [f32],
 ) -> [Filter; FILTERS]
-    requires { ⌜ (0 < n) × (n ≤ wall .lines) × (f ≤ longestRing) × (length (now rows) ≡ f + n * f + n * f) ⌝ }
+    requires { ⌜ (0 < n) × (n ≤ wall .lines) × (f ≤ longestRing) × (length (now rows) ≡ outputPlace n f) ⌝ }
     ensures { λ r. ⌜ r ≡ linesIn n f factor tail fs (now (rows .entry)) .filters ++ drop (3 * n) fs ⌝ }
     ensures { λ _. ⌜ now (rows .exit) ≡ take f (now (rows .entry)) ++ (take (n * f) (drop f (now (rows .entry))) ++ linesIn n f factor tail fs (now (rows .entry)) .put) ⌝ }
 {

@@ -17,7 +17,8 @@ use Rattle.samples.proofs.Turns.{lt-or-ge}
 use Rattle.bands.specs.Times.{timeOk, timesOk}
 use Rattle.unit.specs.UnitState.{UnitState}
 use Rattle.unit.specs.Model.{wall}
-use Rattle.judges.specs.Judges.{judged, givenOk, lentOk, badInput, judgedGiven}
+use Rattle.unit.specs.Room.{lentOk}
+use Rattle.judges.specs.Judges.{judged, givenOk, badInput, judgedGiven}
 use Rattle.shell.specs.Settings.{frame, storeFloats, workFloats, times, lineGains, coefficients}
 use Rattle.shell.specs.Frames.{heard, inputDue}
 use Rattle.shell.specs.Refused.{Patterns}

@@ -11,7 +11,7 @@ use Rattle.iir.specs.Nine.{nine}
 use Rattle.unit.specs.UnitState.{UnitState}
 use Rattle.unit.specs.Model.{wall}
 use Rattle.unit.specs.Fresh.{noFrame, freshUnit}
-use Rattle.unit.specs.Sizes.{lengthsFrom, lengths, total, storeLen, workLen}
+use Rattle.unit.specs.Layout.{lengthsFrom, lengths, total, storeLen, workLen}
 use Rattle.unit.specs.Range.{below, cursorsIn, unmarked, blankFilters, blankOpen, inRange}
 use Rattle.judges.specs.Judges.{judged}
 use Rattle.stages.specs.Frame.{newFilters}

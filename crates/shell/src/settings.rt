@@ -3,6 +3,7 @@
 use bands::Times;
 use samples::Frames;
 use samples::and;
+use unit::ALLPASS_FLOATS;
 use unit::BANDS;
 use unit::COEFFICIENTS;
 use unit::DELAYS_AND_RINGS;
@@ -10,7 +11,6 @@ use unit::FILTERS;
 use unit::LINES;
 use unit::Outcome;
 use unit::PER_FILTER;
-use unit::RINGS;
 use unit::ROWS;
 use unit::TONE;
 ghost use mathlib.Core.Path.{_≡_};
@@ -40,7 +40,7 @@ pub const BYTES: usize = 4 * FRAME;
 pub const STORE: usize = DELAYS_AND_RINGS + LINES * FRAME;
 
 // And how many of work memory.
-pub const WORK: usize = ROWS * FRAME + RINGS;
+pub const WORK: usize = ROWS * FRAME + ALLPASS_FLOATS;
 
 // Where b0 stands among the coefficients of a filter.
 const B0: usize = 2;

@@ -11,7 +11,7 @@ use Rattle.hadamard.specs.Rows.{mixedRows}
 use Rattle.iir.specs.declared.Filter.{Filter}
 use Rattle.iir.specs.Runs.{runOut, bandsEnd}
 use Rattle.unit.specs.declared.Rings.{Rings}
-use Rattle.unit.specs.Sizes.{total}
+use Rattle.unit.specs.Layout.{total}
 use Rattle.allpass.specs.Passes.{Stage, passOut, passEnd}
 use Rattle.stages.specs.Lines.{noFilter, readRows, bandRows, bandEnds, addRows, sumRows, three, threeOf}
 
@@ -28,8 +28,8 @@ stageAt ls cs rings k = record {
   ys = getD cs (k + 1) (both 0);
 }
 
-abbrev pub ringsOf : Stage → Stage → List Float
-ringsOf s t = s .x ++ (s .y ++ (t .x ++ t .y))
+abbrev pub allpassOf : Stage → Stage → List Float
+allpassOf s t = s .x ++ (s .y ++ (t .x ++ t .y))
 
 -- R4.6 to R4.9: what step 4 gives, a name for each stage's rows, and the lines' filters after it
 pub record LineRows : Type 0 where
@@ -85,7 +85,7 @@ outputRow n f d ls cs fs rings reads =
       tone0 = tone0;
       tone1 = tone1;
       out = runOut (getD fs (k + 2) noFilter) tone1;
-      rings = ringsOf (passEnd (f / 4) s0 sum) (passEnd (f / 4) s1 pass0);
+      rings = allpassOf (passEnd (f / 4) s0 sum) (passEnd (f / 4) s1 pass0);
       filters = threeOf (bandsEnd (three k fs) pass1);
     }
 
@@ -104,15 +104,15 @@ abbrev pub readsOf : ℕ → ℕ → Rings → List Float → List Float
 readsOf n f r store = readRows f n 0 (r .lines .lengths) (r .lines .cursors) store
 
 -- R1.20: the allpass rings, which lie after lines' rings of the lengths ls
-abbrev pub passesIn : List ℕ → List Float → List Float
-passesIn ls store = drop (total ls) store
+abbrev pub allpassIn : List ℕ → List Float → List Float
+allpassIn ls store = drop (total ls) store
 
--- a frame of n lines on the rings r of a store, the mix's factor k and the sum's divisor d
+-- R4.5 to R4.12: a frame of n lines on the rings r of a store, which has no other lines, the mix's factor k and the sum's divisor d
 unfoldable pub frameIn : ℕ → ℕ → Float → Float → Bool → Rings → List Filter → List Float → List Float → Frame
 frameIn n f k d tail r fs input store =
     let reads = readsOf n f r store in
     record {
       reads = reads;
       lines = lineRows n f k tail fs input reads;
-      output = outputRow n f d (r .passes .lengths) (r .passes .cursors) fs (passesIn (r .lines .lengths) store) reads;
+      output = outputRow n f d (r .passes .lengths) (r .passes .cursors) fs (allpassIn (r .lines .lengths) store) reads;
     }

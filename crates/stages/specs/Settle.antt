@@ -19,7 +19,7 @@ use Rattle.iir.specs.Nine.{finiteFilter}
 use Rattle.unit.specs.declared.Rings.{Rings}
 use Rattle.unit.specs.UnitState.{RingCursors, UnitState}
 use Rattle.unit.specs.Model.{Model}
-use Rattle.unit.specs.Sizes.{lengths}
+use Rattle.unit.specs.Layout.{lengths}
 use Rattle.stages.specs.Frame.{Frame, newFilters}
 
 unfoldable pub filtersFinite : List Filter → Bool
@@ -41,9 +41,9 @@ putRows f (suc n) i ls cs rows rings store =
     write (take (getD ls i 0) store) (getD cs i (both 0) .write .0) (take f rows)
     ++ putRows f n (i + 1) ls cs (drop f rows) rings (drop (getD ls i 0) store)
 
--- R4.17, R4.18: the store after a frame of n lines on the rings r, its rows put and its allpass rings `rings`
+-- R4.17, R4.18: the store after a frame of n lines on the rings r, its rows put and its allpass rings copied
 abbrev pub settled : ℕ → ℕ → Rings → List Float → List Float → List Float → List Float
-settled n f r rows rings store = putRows f n 0 (r .lines .lengths) (r .lines .cursors) rows rings store
+settled n f r rows allpass store = putRows f n 0 (r .lines .lengths) (r .lines .cursors) rows allpass store
 
 -- R4.20: cursors of a ring of length l, f samples on. They go round a ring that is shorter than a frame more than once
 abbrev pub movedBy : ℕ → ℕ → Cursors → Cursors

@@ -1,6 +1,6 @@
 -- The wall unit's sizes are those of R1.19 and R1.21. Assumes nothing.
 use native.Mathlib.Omega.{arith}
-use Rattle.unit.specs.Sizes.{lengthsFrom, total, storeLen, workLen, StoreIs, WorkIs}
+use Rattle.unit.specs.Layout.{lengthsFrom, total, storeLen, workLen, StoreIs, WorkIs}
 
 pub store-is : StoreIs
 unfolding storeLen total lengthsFrom

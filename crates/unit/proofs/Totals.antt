@@ -9,7 +9,7 @@ use lib.Dec.{eqb}
 use lib.ListN.{length, getD, take}
 use lib.Seq.{take-all}
 use borrow.Author.Tests.{eqb-true, eqb-false, eq-eqb, ne-eqb}
-use Rattle.unit.specs.Sizes.{total}
+use Rattle.unit.specs.Layout.{total}
 
 pub total-next : (k : ℕ) (ps : List ℕ) → total (take (suc k) ps) ≡ total (take k ps) + getD ps k 0
 unfolding total

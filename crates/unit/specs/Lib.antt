@@ -1,6 +1,6 @@
 pub mod UnitState
 pub mod Model
-pub mod Sizes
+pub mod Layout
 pub mod Fresh
 pub mod Range
 pub mod Room

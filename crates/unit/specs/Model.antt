@@ -1,4 +1,4 @@
--- R1.17: what one model of the unit is built of. Every definition above this one is over any model.
+-- R1.17: what one model of the unit is built of. The definitions of the calls, and of what they rest on, are over any model.
 use Prim.Native.Nat.{ℕ}
 use mathlib.Core.List.{List, [], _∷_}
 use lib.Ieee.{Float, binary32, ofBits}

@@ -10,7 +10,7 @@ use Rattle.delay.specs.Calls.{longestRing}
 use Rattle.unit.specs.declared.Rings.{Rings}
 use Rattle.unit.specs.UnitState.{UnitState}
 use Rattle.unit.specs.Model.{Model}
-use Rattle.unit.specs.Sizes.{lengths, storeLen, workLen}
+use Rattle.unit.specs.Layout.{lengths, storeLen, workLen}
 use Rattle.unit.specs.Range.{cursorsIn}
 
 -- the rings of a unit, where those of its lines have the lengths ls; and as they are
@@ -38,6 +38,10 @@ ringsIn r = cursorsIn (r .lines .lengths) (r .lines .cursors) && cursorsIn (r .p
 -- R1.19, R1.21, R1.25: the lengths of the memory lent, of a store of lines' rings of the lengths ls, of the work memory and of the output
 abbrev pub lentFor : Model → ℕ → List ℕ → ℕ → ℕ → ℕ → Bool
 lentFor m f ls store work output = eqb store (storeLen m ls) && (eqb work (workLen m f) && eqb output f)
+
+-- R2.23, R2.30: what a whole call and a close of a unit are lent
+abbrev pub lentOk : Model → UnitState → ℕ → ℕ → ℕ → Bool
+lentOk m u store work output = lentFor m (u .settings .frame) (lengths m u) store work output
 
 -- all that is asked: f itself, lines' rings that hold it, the model's allpass rings, every cursor within its ring, and the memory lent
 unfoldable pub roomOk : Model → ℕ → Rings → ℕ → ℕ → ℕ → Bool

@@ -32,13 +32,16 @@ pub const PASS_RINGS: usize = 4;
 // Their lengths.
 pub const PASS_LENGTHS: [usize; PASS_RINGS] = [225, 341, 341, 441];
 
-// All four of them: 1,348.
-pub const RINGS: usize = PASS_LENGTHS[0] + PASS_LENGTHS[1] + PASS_LENGTHS[2] + PASS_LENGTHS[3];
+// The floats of all four: 1,348.
+pub const ALLPASS_FLOATS: usize = PASS_LENGTHS[0]
+    + PASS_LENGTHS[1]
+    + PASS_LENGTHS[2]
+    + PASS_LENGTHS[3];
 
 // The delays of all lines, four in turn, and the allpass rings: what a store has beside a frame for each
 // line, 7,600.
 pub const DELAYS_AND_RINGS: usize = LINES / 4 * (DELAYS[0] + DELAYS[1] + DELAYS[2] + DELAYS[3])
-    + RINGS;
+    + ALLPASS_FLOATS;
 
 // The rows of the work memory, a frame each: row 0 is the input, and from row 1 on lie the lines read.
 // The lines mixed lie from this row on.

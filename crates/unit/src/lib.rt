@@ -6,6 +6,7 @@ mod range;
 mod room;
 mod sizes;
 
+pub use layout::ALLPASS_FLOATS;
 pub use layout::BANDS;
 pub use layout::COEFFICIENTS;
 pub use layout::DELAYS_AND_RINGS;
@@ -22,7 +23,6 @@ pub use layout::OUTPUT_ROW;
 pub use layout::PASS_LENGTHS;
 pub use layout::PASS_RINGS;
 pub use layout::PER_FILTER;
-pub use layout::RINGS;
 pub use layout::ROWS;
 pub use layout::TONE;
 pub use range::in_range;
@@ -71,7 +71,7 @@ pub struct LineRings {
 }
 
 // The allpass rings.
-pub struct PassRings {
+pub struct AllpassRings {
     pub lengths: [usize; PASS_RINGS],
     pub cursors: [Cursors; PASS_RINGS],
 }
@@ -79,7 +79,7 @@ pub struct PassRings {
 // The rings of a unit.
 pub struct Rings {
     pub lines: LineRings,
-    pub passes: PassRings,
+    pub passes: AllpassRings,
 }
 
 // The state of a unit in which nothing has sounded yet (R1.32).

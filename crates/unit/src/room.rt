@@ -1,6 +1,6 @@
 // The memory and the rings that a frame asks.
+use crate::AllpassRings;
 use crate::LineRings;
-use crate::PassRings;
 use crate::Rings;
 use crate::State;
 use crate::layout::LINES;
@@ -21,13 +21,12 @@ ghost use lib.ListN.{replicate};
 ghost use Rattle.samples.specs.Sizes.{frameOk};
 ghost use Rattle.unit.specs.UnitState.{ofState};
 ghost use Rattle.unit.specs.Model.{wall};
-ghost use Rattle.unit.specs.Sizes.{lengths};
-ghost use Rattle.unit.specs.Room.{ringsWith, unitRings, ringsHold, passesAre, lentFor, roomOk};
+ghost use Rattle.unit.specs.Room.{ringsWith, unitRings, ringsHold, passesAre, lentOk, roomOk};
 
 // Whether the store, the work memory and the output have the lengths that a unit asks (R1.19, R1.21,
 // R1.25).
 pub fn lent_ok(s: State, store: usize, work: usize, output: usize) -> bool
-    ensures { λ r. ⌜ r ≡ lentFor wall (s .frame) (lengths wall (ofState s)) store work output ⌝ }
+    ensures { λ r. ⌜ r ≡ lentOk wall (ofState s) store work output ⌝ }
 {
     let frame = s.frame;
     and(
@@ -73,7 +72,7 @@ pub fn rings_of(s: State) -> Rings
             lengths: lengths(s),
             cursors: lines,
         },
-        passes: PassRings {
+        passes: AllpassRings {
             lengths: PASS_LENGTHS,
             cursors: passes,
         },

@@ -1,8 +1,8 @@
 // The sizes of the memory that the unit is lent, judged without a sum that may not fit.
 use crate::State;
+use crate::layout::ALLPASS_FLOATS;
 use crate::layout::DELAYS_AND_RINGS;
 use crate::layout::LINES;
-use crate::layout::RINGS;
 use crate::layout::ROWS;
 use samples::frame_ok;
 ghost use mathlib.Core.Path.{_≡_};
@@ -13,7 +13,7 @@ ghost use lib.ListN.{replicate};
 ghost use Rattle.samples.specs.Sizes.{longestFrame, frameOk};
 ghost use Rattle.unit.specs.UnitState.{ofState};
 ghost use Rattle.unit.specs.Model.{wall};
-ghost use Rattle.unit.specs.Sizes.{lengths, storeLen, workLen};
+ghost use Rattle.unit.specs.Layout.{lengths, storeLen, workLen};
 
 // The lengths of the lines' rings of a unit (R1.10). Where its frame is out of range there is no such
 // unit, and no ring.
@@ -51,7 +51,7 @@ pub fn store_ok(s: State, store: usize) -> bool
 pub fn work_ok(frame: usize, work: usize) -> bool
     ensures { λ r. ⌜ r ≡ eqb work (workLen wall frame) ⌝ }
 {
-    is_sum(work, RINGS, ROWS, frame)
+    is_sum(work, ALLPASS_FLOATS, ROWS, frame)
 }
 
 // Whether a store holds lines' rings of the lengths `ls`, and then the allpass rings: each ring is taken
@@ -67,7 +67,7 @@ pub fn is_store(ls: [usize; LINES], store: usize) -> bool
         }
         left -= l;
     }
-    left == RINGS
+    left == ALLPASS_FLOATS
 }
 
 // Whether `len` is `base` and `rows` rows of `frame`.

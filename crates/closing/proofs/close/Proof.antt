@@ -7,7 +7,7 @@ use Rattle.samples.proofs.Laws.{is-accepted}
 use Rattle.unit.specs.UnitState.{ofState}
 use Rattle.unit.specs.Model.{wall}
 use Rattle.unit.proofs.Outcomes.{refused, let-by}
-use Rattle.judges.specs.Judges.{lentOk}
+use Rattle.unit.specs.Room.{lentOk}
 use Rattle.judges.specs.Marks.{allDone}
 use Rattle.judges.specs.Turns.{judgedClose}
 use Rattle.judges.proofs.Fits.{due-of, room-of, rings-are}

@@ -11,12 +11,13 @@ use Rattle.unit.specs.UnitState.{ofState}
 use Rattle.unit.specs.declared.State.{State}
 use Rattle.unit.specs.Model.{wall}
 use Rattle.judges.specs.Judges.{workOk}
-use Rattle.judges.specs.Marks.{mixMark, marked, allRead}
+use Rattle.judges.specs.Marks.{marked, allRead}
 use Rattle.judges.specs.Turns.{judgedMix}
 use Rattle.rows.proofs.RowsOf.{work-fits}
 use Rattle.unit.specs.Outcome.{outcome}
 use Rattle.judges.proofs.Fits.{due-of}
 use Rattle.unit.proofs.Outcomes.{refused, let-by}
+use Rattle.unit.specs.Layout.{mixMark}
 use Rattle.machine.specs.Ending.{Memory, lend}
 use Rattle.machine.specs.Jobs.{mixJob, memoryDone}
 use Rattle.machine.proofs.Ends.{quiet-refused, quiet-let-by}

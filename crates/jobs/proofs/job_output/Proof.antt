@@ -11,11 +11,12 @@ use Rattle.iir.specs.declared.Filter.{Filter}
 use Rattle.unit.specs.UnitState.{UnitState, ofState}
 use Rattle.unit.specs.Model.{wall}
 use Rattle.judges.specs.Judges.{workOk}
-use Rattle.judges.specs.Marks.{outputMark, marked, allRead}
+use Rattle.judges.specs.Marks.{marked, allRead}
 use Rattle.judges.specs.Turns.{judgedOutput}
 use Rattle.unit.specs.Outcome.{outcome}
 use Rattle.judges.proofs.Fits.{due-of}
 use Rattle.unit.proofs.Outcomes.{refused, let-by}
+use Rattle.unit.specs.Layout.{outputMark}
 use Rattle.machine.specs.Ending.{Memory, lend}
 use Rattle.machine.specs.Jobs.{outputJob, unitMarked, memoryDone}
 use Rattle.machine.proofs.Ends.{quiet-refused, quiet-let-by}

@@ -16,7 +16,7 @@ use Rattle.unit.specs.declared.State.{State}
 use Rattle.unit.specs.declared.Rings.{Rings}
 use Rattle.unit.specs.Model.{wall}
 use Rattle.unit.specs.Range.{cursorsIn}
-use Rattle.unit.specs.Sizes.{lengths}
+use Rattle.unit.specs.Layout.{lengths}
 use Rattle.unit.specs.Room.{ringsWith, unitRings, ringsHold}
 use Rattle.unit.proofs.Ranges.{wall-holds}
 use Rattle.samples.specs.Sizes.{rateOk, frameOk}

@@ -10,13 +10,13 @@ use Rattle.audio_buffer.specs.declared.AudioEffectState.the-variants.{TailCompl
 use Rattle.unit.specs.UnitState.{UnitState, ofState}
 use Rattle.unit.specs.Outcome.{outcome}
 use Rattle.unit.specs.Model.{wall}
-use Rattle.unit.specs.Sizes.{lengths}
+use Rattle.unit.specs.Layout.{lengths}
 use Rattle.unit.proofs.Outcomes.{refused, let-by}
 use Rattle.judges.specs.Judges.{storeOk, workOk}
 use Rattle.judges.specs.Turns.{judgedOpenApply}
 use Rattle.judges.proofs.Fits.{given-of}
 use Rattle.bands.specs.declared.Counted.{Counted}
-use Rattle.stages.specs.Frame.{passesIn}
+use Rattle.stages.specs.Frame.{allpassIn}
 use Rattle.reverb.proofs.WholeParts.{filters-given}
 use Rattle.machine.specs.Ending.{Memory, lend}
 use Rattle.machine.specs.Whole as Play
@@ -57,7 +57,7 @@ part-copy-end c =
     let begun = c .before .before in
     let a = begun .before .before .before .before .before .before .before .before .before .before .before .args in
     let e = begun .begin-work .ensures in
-    rw e (open-long (a .s .frame) (passesIn (lengths wall (ofState (a .s))) (now (a .store))))
+    rw e (open-long (a .s .frame) (allpassIn (lengths wall (ofState (a .s))) (now (a .store))))
 
 returns-2 : tie.Need-returns-2
 returns-2 c =
@@ -84,7 +84,7 @@ returns-2 c =
     let unit = ap ofState (made .opened .ensures) ∙ (λ i. unitOpen wall u false (filters i) (count i)) in
     let q = quiet-let-by due _ (memoryOpened wall w p) w _ e through (c .quiet2 .ensures ∙ ap (λ (v : UnitState). outcome (judged .judge-open-apply .result) v TailComplete) unit) in (
       q .0,
-      laid-after (u .settings .frame) (passesIn (lengths wall u) (now (a .store))) (now (a .input)) _ _ (g .row) (begun .begin-work .ensures) (copied .copy .ensures)
+      laid-after (u .settings .frame) (allpassIn (lengths wall u) (now (a .store))) (now (a .input)) _ _ (g .row) (begun .begin-work .ensures) (copied .copy .ensures)
           ∙ ap (λ (v : Memory). v .work) (q .1),
     )
 

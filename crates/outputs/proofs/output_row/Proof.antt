@@ -23,7 +23,7 @@ unfolding outputAfter outputMade
 nothing n f d v fs rows e = rw e (refl, refl)
 
 all : (n f : ℕ) (d : Float) (v : Rings) (fs gs : List Filter) (rows w : List Float) → outputFits n f (v .passes .lengths) (length rows) ≡ true
-    → let r = outputFrom n f d (v .passes .lengths) (v .passes .cursors) fs rows in
+    → let r = outputFrom n f d (v .passes) fs rows in
     (gs ≡ over (3 * n) (r .filters) fs) × (w ≡ take (n * f + n * f) rows ++ (r .out ++ r .rings))
     → (gs ≡ outputAfter n f d v fs rows) × (w ≡ outputMade n f d v fs rows)
 unfolding outputAfter outputMade
@@ -31,7 +31,7 @@ all n f d v fs gs rows w e p = rw e p
 
 returns : tie.Need-returns
 returns c =
-    let a = c .before .before .before .before .before .args in
+    let a = c .before .before .before .before .args in
     nothing (a .n) (a .f) (a .divisor) (a .rings) (a .fs) (now (a .rows)) (shut _ _ (c .before .output-fits .ensures) (c .if1 .taken))
 
 output-in-requires : tie.Need-output-in-requires
@@ -43,7 +43,7 @@ returns-2 : tie.Need-returns-2
 returns-2 c =
     let ran = c .before .before in
     let tested = ran .before .before in
-    let a = tested .before .before .before .before .before .args in
+    let a = tested .before .before .before .before .args in
     all (a .n) (a .f) (a .divisor) (a .rings) (a .fs) _ (now (a .rows)) _ (let-in _ _ (tested .before .output-fits .ensures) (tested .if1 .left)) (ran .output-in .ensures)
 
 pub output-row-spec : {M : Type 1} → statement M

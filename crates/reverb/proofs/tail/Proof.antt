@@ -8,9 +8,9 @@ use Rattle.samples.specs.declared.Frames.{Frames}
 use Rattle.samples.proofs.Laws.{is-accepted}
 use Rattle.unit.specs.UnitState.{ofState}
 use Rattle.unit.specs.Model.{wall}
-use Rattle.unit.specs.Room.{unitRings}
+use Rattle.unit.specs.Room.{unitRings, lentOk}
 use Rattle.unit.proofs.Outcomes.{refused, let-by}
-use Rattle.judges.specs.Judges.{judgedTail, lentOk}
+use Rattle.judges.specs.Judges.{judgedTail}
 use Rattle.judges.proofs.Fits.{due-of, room-of}
 use Rattle.machine.specs.Ending.{lend}
 use Rattle.machine.specs.Whole as Play

@@ -19,8 +19,8 @@ abbrev μ-loop : tie.MeasureT-loop
 loop-holds : tie.Need-loop-holds Inv-loop μ-loop
 loop-holds c = let z = sub-zero (c .args .n) in (search needs, refl, rw z (c .pre .2), refl, rw z refl)
 
-moved-requires : tie.Need-moved-requires Inv-loop μ-loop
-moved-requires c κs =
+moved-by-requires : tie.Need-moved-by-requires Inv-loop μ-loop
+moved-by-requires c κs =
     let l = c .before .before .loop in
     let s = c .before .before .before in
     let r = ring-here (s .args .n) (s .args .f) (s .args .t3) (s .args .t4) _ (l .i) (l .ds) (l .inv) (c .before .loop-test .taken) in
@@ -32,7 +32,7 @@ loop-again c =
     let l = turn .before .loop in
     let s = turn .before .before in
     move-turn (s .args .n) (s .args .f) (s .args .t3) (s .args .t4) _ (l .i) (l .ds) (l .inv) _ (turn .loop-test .taken) (search needs) (search needs)
-    (c .moved .ensures)
+    (c .moved-by .ensures)
 
 returns : tie.Need-returns Inv-loop μ-loop
 returns c =
@@ -51,7 +51,7 @@ move-lines-spec =
     (λ c. search needs)
     (λ c. search needs)
     (λ c. search needs)
-    moved-requires
+    moved-by-requires
     (λ c. search needs)
     (λ c. search needs)
     (λ c. search needs)

@@ -18,8 +18,8 @@ abbrev μ-loop : tie.MeasureT-loop
 loop-holds : tie.Need-loop-holds Inv-loop μ-loop
 loop-holds c = (search needs, refl, c .pre .1, refl, ap (λ (l : List ℕ). allMoved (c .args .f) l (c .args .t3)) (take-all 4 (c .args .t2) (search needs)))
 
-moved-requires : tie.Need-moved-requires Inv-loop μ-loop
-moved-requires c κs =
+moved-by-requires : tie.Need-moved-by-requires Inv-loop μ-loop
+moved-by-requires c κs =
     let l = c .before .before .loop in
     let s = c .before .before .before in
     let r = ring-here 4 (s .args .f) (s .args .t2) (s .args .t3) _ (l .i) (l .ds) (l .inv) (c .before .loop-test .taken) in
@@ -30,7 +30,7 @@ loop-again c =
     let turn = c .before .before in
     let l = turn .before .loop in
     let s = turn .before .before in
-    move-turn 4 (s .args .f) (s .args .t2) (s .args .t3) _ (l .i) (l .ds) (l .inv) _ (turn .loop-test .taken) (search needs) (search needs) (c .moved .ensures)
+    move-turn 4 (s .args .f) (s .args .t2) (s .args .t3) _ (l .i) (l .ds) (l .inv) _ (turn .loop-test .taken) (search needs) (search needs) (c .moved-by .ensures)
 
 returns : tie.Need-returns Inv-loop μ-loop
 returns c =
@@ -49,7 +49,7 @@ move-passes-spec =
     (λ c. search needs)
     (λ c. search needs)
     (λ c. search needs)
-    moved-requires
+    moved-by-requires
     (λ c. search needs)
     (λ c. search needs)
     (λ c. search needs)

@@ -7,7 +7,7 @@ use Prim.Native.Nat.{_≤_, _+_, _-_}
 use native.Mathlib.Nat.{zero-add, sub-zero}
 use lib.ListN.{length, getD, take, drop}
 use denote.Ref.{now}
-use Rattle.unit.specs.Sizes.{total}
+use Rattle.unit.specs.Layout.{total}
 use Rattle.stages.specs.Settle.{putRows}
 use Rattle.samples.proofs.Rows.{all-left}
 use Rattle.frame.proofs.LineLaws.{turn-fits}

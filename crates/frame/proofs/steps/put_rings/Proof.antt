@@ -8,7 +8,7 @@ use Rattle.frame.proofs.steps.put_rings.Tie as tie
 returns : tie.Need-returns
 returns c =
     let s = c .before .before .before .before .before .before in
-    end-set (now (s .args .end)) (now (s .args .store)) _ (s .pre) (c .before .before .copy .ensures)
+    end-set (now (s .args .allpass)) (now (s .args .store)) _ (s .pre) (c .before .before .copy .ensures)
 
 pub put-rings-spec : {M : Type 1} → statement M
 put-rings-spec =

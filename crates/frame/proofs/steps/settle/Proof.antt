@@ -12,7 +12,7 @@ returns c =
     let s = called .before .before .before .before .before .before .before .before .before in
     let a = s .args in
     called .put-rings .ensures
-    ∙ settle-join (a .n) (a .f) (a .rings .lines .lengths) (a .rings .lines .cursors) (now (a .rows)) (now (a .end)) (now (a .store)) _ (s .pre .0 .rings) (s .pre .1)
+    ∙ settle-join (a .n) (a .f) (a .rings .lines .lengths) (a .rings .lines .cursors) (now (a .rows)) (now (a .allpass)) (now (a .store)) _ (s .pre .0 .rings) (s .pre .1)
     (called .before .before .before .before .put-lines .ensures)
 
 pub settle-spec : {M : Type 1} → statement M

@@ -16,7 +16,7 @@ returns c =
     let s = summed .before .before .before in
     let a = s .args in
     let few : 3 * a .n ≤ 48 = omega (arith, s .pre .0) in
-    output-join (a .n) (a .f) (a .divisor) (a .ps) (a .qs) (a .fs) _ (now (a .rows)) _ _ _ (s .pre .2) (s .pre .3) (search needs) (summed .sum-row .ensures) (passed .pass-both .ensures)
+    output-join (a .n) (a .f) (a .divisor) (a .passes) (a .fs) _ (now (a .rows)) _ _ _ (s .pre .2) (s .pre .3) (search needs) (summed .sum-row .ensures) (passed .pass-both .ensures)
     (done-within (3 * a .n) 48 _ (toned .three-at .ensures .0) few, done-within (3 * a .n) 48 _ (toned .three-at .ensures .1) few)
 
 pub output-in-spec : {M : Type 1} → statement M

@@ -5,7 +5,7 @@ use Prim.Native.Nat.{_+_, _-_, _≤_}
 use mathlib.Core.Path.{_≡_}
 use native.Mathlib.Nat.{add-zero}
 use lib.ListN.{take}
-use Rattle.unit.specs.Sizes.{total}
+use Rattle.unit.specs.Layout.{total}
 use Rattle.rows.proofs.RowFits.{ring-summed, ring-over, rings-summed}
 use Rattle.rows.proofs.fits.sum_to.Statement.{statement}
 use Rattle.rows.proofs.fits.sum_to.Tie as tie

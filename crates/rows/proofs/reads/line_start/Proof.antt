@@ -5,7 +5,7 @@ use native.Mathlib.Numerals.{add-one}
 use mathlib.Core.Path.{_≡_, refl, ap, _∙_}
 use Prim.Native.Nat.{ℕ, suc, _-_, _≤_}
 use lib.ListN.{take}
-use Rattle.unit.specs.Sizes.{total}
+use Rattle.unit.specs.Layout.{total}
 use Rattle.unit.proofs.Totals.{total-next, total-front}
 use Rattle.rows.proofs.reads.line_start.Statement.{statement}
 use Rattle.rows.proofs.reads.line_start.Tie as tie

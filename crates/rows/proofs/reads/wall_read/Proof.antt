@@ -5,7 +5,7 @@ use denote.Ref.{now}
 use mathlib.Core.Path.{_≡_}
 use Prim.Native.Nat.{_+_, _*_, _≤_}
 use lib.ListN.{length, getD}
-use Rattle.unit.specs.Sizes.{storeLen, total}
+use Rattle.unit.specs.Layout.{storeLen, total}
 use Rattle.unit.proofs.Ranges.{holds-all}
 use Rattle.samples.proofs.Rows.{row-ends}
 use Rattle.rows.proofs.ReadLaid.{ring-within, row-within, read-laid}

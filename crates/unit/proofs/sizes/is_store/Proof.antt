@@ -5,7 +5,7 @@ use Prim.Native.Nat.{_+_, _-_, _≤_}
 use mathlib.Core.Path.{_≡_}
 use native.Mathlib.Nat.{add-zero}
 use lib.ListN.{take}
-use Rattle.unit.specs.Sizes.{total, storeLen}
+use Rattle.unit.specs.Layout.{total, storeLen}
 use Rattle.unit.proofs.Totals.{ring-summed, ring-over, rings-summed}
 use Rattle.unit.proofs.sizes.is_store.Statement.{statement}
 use Rattle.unit.proofs.sizes.is_store.Tie as tie

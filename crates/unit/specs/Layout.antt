@@ -1,4 +1,5 @@
--- How much memory a unit is lent (R1.10, R1.19, R1.21).
+-- How a unit is laid out: the lengths of its rings, where each row of the work memory begins, how much memory it is lent, how many filters
+-- and jobs it has, and the marks of the jobs.
 use Prim.Native.Nat.{ℕ, zero, suc, _+_, _*_}
 use mathlib.Core.Path.{_≡_}
 use mathlib.Core.List.{List, [], _∷_}
@@ -23,10 +24,20 @@ total (l ∷ ls) = l + total ls
 unfoldable pub storeLen : Model → List ℕ → ℕ
 storeLen m ls = total ls + total (m .passLengths)
 
--- R1.21, R1.22: the work memory is rows of F floats, one for the input, one a line read, one a line mixed and one for the output, and then
--- the allpass rings
+-- R1.22: the work memory of n lines is rows of f floats, one for the input, one a line read, one a line mixed and one for the output, and then
+-- the allpass rings. Where the rows mixed, the output and the rings begin
+abbrev pub mixedPlace : ℕ → ℕ → ℕ
+mixedPlace n f = f + n * f
+
+abbrev pub outputPlace : ℕ → ℕ → ℕ
+outputPlace n f = f + n * f + n * f
+
+abbrev pub ringsPlace : ℕ → ℕ → ℕ
+ringsPlace n f = f + n * f + n * f + f
+
+-- R1.21: its length
 unfoldable pub workLen : Model → ℕ → ℕ
-workLen m f = (m .lines + m .lines + 2) * f + total (m .passLengths)
+workLen m f = ringsPlace (m .lines) f + total (m .passLengths)
 
 -- R1.19, R1.21: the wall unit's
 abbrev pub StoreIs : Type 0
@@ -46,6 +57,16 @@ coefficientsLen m = 5 * filtersLen m
 -- R5.1: the jobs of a frame, a read and a line job for each line, the mix and the output
 abbrev pub jobsLen : Model → ℕ
 jobsLen m = m .lines + m .lines + 2
+
+-- R5.2: read i's mark stands at i, and after the reads' the mix's, the lines' and the output's
+abbrev pub mixMark : Model → ℕ
+mixMark m = m .lines
+
+abbrev pub lineMark : Model → ℕ → ℕ
+lineMark m i = m .lines + 1 + i
+
+abbrev pub outputMark : Model → ℕ
+outputMark m = m .lines + m .lines + 1
 
 -- the lists of a unit of model m are as long as the model says: a `State`'s are
 pub record Sized (m : Model) (u : UnitState) : Type 0 where
