@@ -26,8 +26,9 @@ ghost use Rattle.rows.specs.Workers.{WorkFits};
 ghost use Rattle.outputs.specs.Steps.{outputMade, outputAfter};
 ghost use Rattle.outputs.specs.Parts.{outputLaid, outputEnds};
 
-// Step 5 of n lines: `rows` are n rows read, n mixed, the output and the allpass rings, of `rings` those.
-// Gives the filters after it. Where the rows don't fit nothing is done (R4.10 to R4.12).
+// Step 5 of n lines: `rows` are n rows read, n mixed, the output, and the floats of the allpass rings,
+// whose lengths and cursors `rings` has. Gives the filters after it. Where the rows don't fit nothing is
+// done (R4.10 to R4.12).
 pub fn output_row(
     n: usize,
     f: usize,

@@ -15,8 +15,9 @@ ghost use Rattle.unit.specs.Room.{ringsHold};
 ghost use Rattle.rows.specs.Workers.{WorkFits};
 ghost use Rattle.rows.specs.Reads.{readLaid, lineRoom};
 
-// Step 2 of line i: reads its row into the work memory. On a store that isn't of these rings, or a work
-// memory that isn't one of frames of f samples, nothing is done (R5.11).
+// Step 2 of line i: reads its row into the work memory. Nothing is done where there is no line i, where a
+// line's ring can't hold f samples or is too long for a ring, on a store that isn't of these rings, or on
+// a work memory that isn't one of frames of f samples (R5.11).
 pub fn read_line(i: usize, f: usize, rings: Rings, store: &[f32], work: &mut [f32])
     ensures { λ _. ⌜ now (work .exit) ≡ readLaid wall f rings i (lineRoom wall f (rings .lines .lengths) i (length (now (store .entry))) (length (now (work .entry)))) (now (store .entry)) (now (work .entry)) ⌝ }
 {

@@ -1,5 +1,5 @@
--- How a unit is laid out: the lengths of its rings, where each row of the work memory begins, how much memory it is lent, how many filters
--- and jobs it has, and the marks of the jobs.
+-- How a unit is laid out: the lengths of its rings, where the mixed rows, the output and the rings begin in the work memory, how much memory it
+-- is lent, how many filters and jobs it has, and the marks of the jobs.
 use Prim.Native.Nat.{ℕ, zero, suc, _+_, _*_}
 use mathlib.Core.Path.{_≡_}
 use mathlib.Core.List.{List, [], _∷_}
