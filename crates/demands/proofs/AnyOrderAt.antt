@@ -22,8 +22,9 @@ use Rattle.stages.proofs.RowLaws.{Held, length-readRows, length-bandEnds}
 use Rattle.stages.proofs.FrameLaws.{put-beside, out-long}
 use Rattle.rows.specs.Rows.{Rows, rowsOf, joinedRows}
 use Rattle.machine.specs.Ending.{Memory}
-use Rattle.demands.proofs.LineRings.{row-long, lines-held}
-use Rattle.demands.proofs.AnyOrderRows.{stacked, length-stacked}
+use Rattle.demands.proofs.LineRings.{lines-held}
+use Rattle.samples.proofs.Rows.{row-long}
+use Rattle.samples.proofs.Stacked.{stacked, length-stacked}
 use Rattle.demands.proofs.AnyOrderFrame.{filters-row, rings-long}
 use Rattle.rows.proofs.Joined.{Long, cut-joined, length-joined}
 use Rattle.demands.proofs.AnyOrderMarks.{at}
@@ -168,12 +169,12 @@ module _ (m : Model) (o : Opening) (h : Fit m o) where
 
   module _ (marks : List Bool) where
     pub read-long : (i : ℕ) → i < n → length (readAt m o marks i) ≡ f
-    read-long i b = cond-long (at marks i) _ _ f (row-long f n i (R .reads) b reads-long) silence-long
+    read-long i b = cond-long (at marks i) _ _ f (row-long f n i (R .reads) b (omega (arith, reads-long))) silence-long
 
     pub mix-long : (i : ℕ) → i < n → length (mixedAt m o marks i) ≡ f
     mix-long i b =
         cond-long (at marks (mixMark m)) _ _ f
-        (cond-long (at marks (lineMark m i)) _ _ f (row-long f n i (R .lines .put) b put-long) (row-long f n i (R .lines .mixed) b mixed-long))
+        (cond-long (at marks (lineMark m i)) _ _ f (row-long f n i (R .lines .put) b (omega (arith, put-long))) (row-long f n i (R .lines .mixed) b (omega (arith, mixed-long))))
         silence-long
 
     pub bands-long : (i : ℕ) → i < n → length (bandsAt m o marks i) ≡ 3

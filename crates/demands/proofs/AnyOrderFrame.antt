@@ -22,7 +22,7 @@ use Rattle.allpass.proofs.Stages.{pass-rings}
 use Rattle.stages.specs.Lines.{noFilter, bandRows, three, threeOf, bandEnds, plus, addRows}
 use Rattle.stages.specs.Frame.{stretch, stageAt, allpassOf, lineRows, outputRow}
 use Rattle.stages.proofs.RowLaws.{byBands, peel, length-plus, length-bandRows}
-use Rattle.demands.proofs.AnyOrderRows.{getD-row}
+use Rattle.samples.proofs.Stacked.{getD-row}
 
 -- ---- rows of lines
 

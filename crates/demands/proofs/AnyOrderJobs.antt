@@ -26,8 +26,8 @@ use Rattle.rows.specs.Parts.{lineIn, lineLaid, lineEnds}
 use Rattle.outputs.specs.Parts.{outputIn, outputLaid, outputEnds}
 use Rattle.machine.specs.Jobs.{openLaid, readRow, readWork, mixLaid, lineJob, outputJob, jobWork, jobFilters}
 use Rattle.demands.proofs.LineRings.{read-row}
-use Rattle.demands.proofs.AnyOrderRows.{stacked, stacked-same, length-stacked, stacked-rows, stacked-all, row-stacked, row-of, set-stacked, set-of, over-end}
-use Rattle.rows.proofs.RowAt.{over-row, next-row}
+use Rattle.samples.proofs.Stacked.{stacked, stacked-same, length-stacked, stacked-rows, stacked-all, row-stacked, row-of, set-stacked, set-of, over-end}
+use Rattle.samples.proofs.Rows.{over-row, next-row}
 use Rattle.demands.proofs.AnyOrderFrame.{put-row, filters-row, three-row, output-asks, tone-long}
 use Rattle.demands.proofs.AnyOrderMarks.{at, true≢false, false-of, set-here, set-there, done-at, read-at, Legal}
 use Rattle.demands.proofs.AnyOrderAt.{Opening, frameAt, Fit, silence, readAt, mixedAt, bandsAt, outputAt, ringsAt, toneAt, rowsAt, filtersAt, unitAt, memoryAt}

@@ -8,7 +8,6 @@ pub mod Refused
 pub mod TheCalls
 pub mod LineRings
 pub mod LineTurn
-pub mod AnyOrderRows
 pub mod AnyOrderMarks
 pub mod AnyOrderFrame
 pub mod AnyOrderAt

@@ -1,8 +1,8 @@
 -- The rings of the lines in a store: row i of what is read comes from ring i, and row i of what is put goes there. Assumes nothing.
-use Prim.Native.Nat.{ℕ, zero, suc, _+_, _*_, _-_, _<_, _≤_}
+use Prim.Native.Nat.{ℕ, zero, suc, _+_, _-_, _<_, _≤_}
 use mathlib.Core.Path.{_≡_, refl, sym, ap, _∙_}
 use mathlib.Core.List.{List, [], _∷_, _++_}
-use native.Mathlib.Nat.{add-zero, zero-add, suc-mul, not-suc-le-zero}
+use native.Mathlib.Nat.{add-zero, zero-add, not-suc-le-zero}
 use native.Mathlib.Omega.{arith}
 use lib.Ieee.{Float}
 use lib.ListN.{length, getD, take, drop, replicate, length-take, length-drop, length-replicate, replicate-append-replicate}
@@ -41,13 +41,6 @@ ring-from ls (suc i) j store =
 ring-at : (ls : List ℕ) (i : ℕ) (store : List Float) → ringAt ls 0 i store ≡ stretch ls i store
 unfolding stretch
 ring-at ls i store = rw zero-add at (ring-from ls i 0 store)
-
--- ---- a row of rows
-
-pub row-long : (f n i : ℕ) (rows : List Float) → i < n → length rows ≡ n * f → length (row f i rows) ≡ f
-row-long f zero i rows h e = absurd (not-suc-le-zero h)
-row-long f (suc n) zero rows h e = simp length-take (omega (arith, suc-mul n f))
-row-long f (suc n) (suc i) rows h e = row-long f n i (drop f rows) (omega arith) (simp length-drop (omega (arith, suc-mul n f)))
 
 -- ---- a list of one sample, cut
 

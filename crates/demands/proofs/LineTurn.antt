@@ -9,6 +9,7 @@ use lib.Ieee.{Float}
 use lib.ListN.{length, getD, take, drop, length-append, length-take, length-drop}
 use lib.Seq.{take-at, drop-at}
 use Rattle.samples.specs.Lists.{row, setRow}
+use Rattle.samples.proofs.Rows.{row-long}
 use Rattle.samples.specs.declared.Samples.{Samples}
 use Rattle.delay.specs.declared.Cursors.{Cursors}
 use Rattle.delay.specs.Calls.{both}
@@ -23,7 +24,7 @@ use Rattle.stages.proofs.RowLaws.{Held}
 use Rattle.rows.specs.Rows.{Rows, rowsOf}
 use Rattle.machine.specs.Jobs.{readRow, readWork}
 use Rattle.demands.proofs.Lent.{Lent, cursors, within}
-use Rattle.demands.proofs.LineRings.{row-long, ring-long, put-row, lines-long, line-length, lines-held}
+use Rattle.demands.proofs.LineRings.{ring-long, put-row, lines-long, line-length, lines-held}
 use Rattle.demands.proofs.LineRings.{moved-at}
 use Rattle.rows.proofs.Joined.{Long, cut-joined}
 
@@ -85,7 +86,7 @@ module _ (m : Model) (i : ℕ) (h : i < m .lines) (u : UnitState) (store : List 
     ring-turn equal rows rings e =
         let put = row f i rows in
         let near : k < l = within m u i (lent .range) (omega arith) in
-        let lp : length put ≡ f = row-long f (m .lines) i rows h e in
+        let lp : length put ≡ f = row-long f (m .lines) i rows h (omega (arith, e)) in
         let on : (k + f) % l ≡ wrap (length ring) (k + length put) = rw (ring-is, lp) (sym (wrap-mod l (k + f) (omega (arith, near, holds)))) in
         record {
           fits = rw (length-rotl, ring-is, lp) holds;

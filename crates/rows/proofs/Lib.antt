@@ -1,5 +1,4 @@
 pub mod Ways
-pub mod RowAt
 pub mod SumTurns
 pub mod BandTurns
 pub mod RowJoins

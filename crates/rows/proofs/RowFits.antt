@@ -1,19 +1,15 @@
 -- What the tests of the memory lent tell, and that they are passed by what fits. Assumes nothing.
-use mathlib.Core.Path.{_≡_, refl, sym, ap, _∙_}
+use mathlib.Core.Path.{_≡_, refl, sym, ap}
 use mathlib.Core.Bool.{Bool, true, false, _&&_}
 use mathlib.Core.List.{List}
-use Prim.Native.Nat.{ℕ, suc, _+_, _*_, _-_, _%_, _<_, _≤_}
+use Prim.Native.Nat.{ℕ, _+_, _*_, _-_, _%_, _<_, _≤_}
 use native.Mathlib.Nat.{mul-le-mul}
-use native.Mathlib.Numerals.{add-one}
 use native.Mathlib.Omega.{arith}
 use lib.Dec.{leb, eqb}
-use lib.ListN.{length, getD, take}
-use lib.Seq.{take-all}
 use borrow.Author.Tests.{leb-true, le-leb, eqb-true, eqb-false, eq-eqb, ne-eqb}
 use Rattle.samples.proofs.Laws.{split-and}
 use Rattle.unit.specs.Layout.{total}
 use Rattle.rows.specs.Fits.{fewRows, linesFit, outputFits}
-use Rattle.unit.proofs.Totals.{total-next, total-front}
 
 -- ---- rows of few lines
 
@@ -90,19 +86,3 @@ pub output-long : (n f : ℕ) (ps : List ℕ) (len : ℕ) → n * f + n * f + f 
 unfolding outputFits
 output-long n f ps len h e =
     rw e (ap (λ (b : Bool). eqb (f % 4) 0 && b) (left-over len (n * f + n * f + f) (total ps) h))
-
--- ---- the lengths of the rings, summed one after the other
-
-module _ (ps : List ℕ) (len i rest : ℕ) (e : rest + total (take i ps) ≡ len) where
-  pub ring-summed : getD ps i 0 ≤ rest → rest - getD ps i 0 + total (take (i + 1) ps) ≡ len
-  ring-summed h = rw add-one (omega (arith, total-next i ps))
-
-  pub ring-over : rest < getD ps i 0 → false ≡ eqb len (total ps)
-  ring-over h = sym (ne-eqb len (total ps) (λ (q : len ≡ total ps). omega (arith, total-next i ps, total-front (suc i) ps)))
-
-  pub rings-summed : length ps ≤ i → eqb rest 0 ≡ eqb len (total ps)
-  rings-summed h =
-      let all : take i ps ≡ ps = take-all i ps h in
-      let k : rest + total ps ≡ len = rw all at e in
-      let back : len - total ps ≡ rest = omega arith in
-      rw (← back) (left-over len (total ps) 0 (omega arith) ∙ rw native.Mathlib.Nat.add-zero refl)

@@ -6,7 +6,7 @@ use mathlib.Core.Path.{_≡_}
 use native.Mathlib.Nat.{add-zero}
 use lib.ListN.{take}
 use Rattle.unit.specs.Layout.{total}
-use Rattle.rows.proofs.RowFits.{ring-summed, ring-over, rings-summed}
+use Rattle.unit.proofs.Totals.{ring-summed, ring-over, rings-summed}
 use Rattle.rows.proofs.fits.sum_to.Statement.{statement}
 use Rattle.rows.proofs.fits.sum_to.Tie as tie
 
@@ -21,15 +21,19 @@ unfolding total
 loop-holds c = (search needs, add-zero (c .args .len))
 
 returns : tie.Need-returns Inv-loop μ-loop
-returns c = let l = c .before .before in ring-over (l .before .args .t1) (l .before .args .len) (l .loop .i) (l .loop .rest) (l .loop .inv .1) (omega arith)
+returns c =
+    let l = c .before .before in
+    rw add-zero at (ring-over (l .before .args .t1) (l .before .args .len) 0 (l .loop .i) (l .loop .rest) (l .loop .inv .1) (omega arith))
 
 loop-again : tie.Need-loop-again Inv-loop μ-loop
 loop-again c =
     let l = c .before .before in
-    (omega arith, ring-summed (l .before .args .t1) (l .before .args .len) (l .loop .i) (l .loop .rest) (l .loop .inv .1) (omega arith))
+    (omega arith, ring-summed (l .before .args .t1) (l .before .args .len) 0 (l .loop .i) (l .loop .rest) (l .loop .inv .1) (omega arith))
 
 returns-2 : tie.Need-returns-2 Inv-loop μ-loop
-returns-2 c = let l = c .before in rings-summed (l .before .args .t1) (l .before .args .len) (l .loop .i) (l .loop .rest) (l .loop .inv .1) (search needs)
+returns-2 c =
+    let l = c .before in
+    rw add-zero at (rings-summed (l .before .args .t1) (l .before .args .len) 0 (l .loop .i) (l .loop .rest) (l .loop .inv .1) (search needs))
 
 pub sum-to-spec : {M : Type 1} → statement M
 sum-to-spec =

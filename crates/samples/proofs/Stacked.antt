@@ -6,8 +6,8 @@ use native.Mathlib.Nat.{zero-mul, not-suc-le-zero}
 use native.Mathlib.Omega.{arith}
 use lib.ListN.{length, getD, take, drop, length-append, drop-of-length-le}
 use lib.Seq.{take-at, drop-at, take-add, take-all, getD-take, getD-drop}
 use Rattle.samples.specs.Lists.{over, row, setRow}
-use Rattle.rows.proofs.RowAt.{next-row, row-at}
+use Rattle.samples.proofs.Rows.{next-row, row-at}
 
 module _ {A : Type 0} where
   -- n rows: g 0, then g 1, and so on
