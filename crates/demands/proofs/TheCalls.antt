@@ -9,7 +9,7 @@ use Rattle.samples.specs.Answers.{accept, accepted}
 use Rattle.samples.proofs.Laws.{is-accepted, accept-no}
 use Rattle.unit.specs.declared.Outcome.{Outcome}
 use Rattle.unit.specs.Model.{wall}
-use Rattle.unit.specs.Fresh.{freshUnit}
+use Rattle.unit.specs.Fresh.{leastUnit}
 use Rattle.machine.specs.Ending.{Memory, Ending, outcomeOf, refused, quietly}
 use Rattle.machine.specs.Calls.{ending}
 use Rattle.machine.specs.Requests.{refusal}
@@ -131,4 +131,4 @@ pub refused-fresh-call : RefusedFreshCall
 refused-fresh-call κs a x s p h =
     let e = fresh-ends κs a x s p in
     e ∙ refused-fresh wall (a .0) (a .1 .0) (a .1 .1 .0 .now) (ap (λ (y : Ending). refusal (y .answer)) (sym e) ∙ h)
-    ∙ ap (λ (y : Ending). refused (y .answer) (record { unit = freshUnit wall 8000 4; store = a .1 .1 .0 .now; work = [] }) []) (sym e)
+    ∙ ap (λ (y : Ending). refused (y .answer) (record { unit = leastUnit wall; store = a .1 .1 .0 .now; work = [] }) []) (sym e)

@@ -7,7 +7,7 @@ use mathlib.Core.List.{List, []}
 use lib.Ieee.{Float}
 use Rattle.samples.specs.declared.Answer.the-variants.{Accepted, NotFinite}
 use Rattle.unit.specs.Model.{Model}
-use Rattle.unit.specs.Fresh.{freshUnit}
+use Rattle.unit.specs.Fresh.{leastUnit}
 use Rattle.machine.specs.Ending.{Memory, refused}
 use Rattle.machine.specs.Whole.{begun, wiped}
 use Rattle.machine.specs.Jobs.{memoryShut}
@@ -31,7 +31,7 @@ RefusalChangesNothing = (m : Model) (w : Memory) (c : Call) → refusal (answer 
 abbrev pub RefusedFresh : Type 0
 RefusedFresh =
     (m : Model) (rate frame : ℕ) (store : List Float) → let e = begun m rate frame store in
-    refusal (e .answer) ≡ true → e ≡ refused (e .answer) (record { unit = freshUnit m 8000 4; store = store; work = [] }) []
+    refusal (e .answer) ≡ true → e ≡ refused (e .answer) (record { unit = leastUnit m; store = store; work = [] }) []
 
 -- R8.5, R8.6: the work memory cleared, and where a frame is open the state from before it
 abbrev pub givenBack : Model → Memory → Memory

@@ -7,7 +7,7 @@ use borrow.Fn.Kinds as Kinds'
 use denote.Triple.Clauses
 use Rattle.samples.specs.declared.Answer.the-variants.{Accepted}
 use Rattle.unit.specs.Model.{wall}
-use Rattle.unit.specs.Fresh.{freshUnit}
+use Rattle.unit.specs.Fresh.{leastUnit}
 use Rattle.machine.specs.Ending.{lend, refused}
 use Rattle.machine.specs.Whole.{apply, tail, begun}
 use Rattle.machine.specs.Jobs.{readJob, mixJob, lineJob, outputJob}
@@ -208,4 +208,4 @@ RefusedFreshCall =
     (κs : Lifetimes.Lfts 1) (a : Kinds'.Dens κs fresh-kinds.ps) (x : Kinds'.resT fresh-kinds.r κs .Denot)
     (s : Clauses.AtExit (Kinds'.endedOf 1 fresh-kinds.ps fresh-kinds.r) κs) → fresh-reads.Post κs a x s
     → refusal (x .answer) ≡ true
-    → leaving x (s .1 .1 .0 .now) [] [] ≡ refused (x .answer) (record { unit = freshUnit wall 8000 4; store = a .1 .1 .0 .now; work = [] }) []
+    → leaving x (s .1 .1 .0 .now) [] [] ≡ refused (x .answer) (record { unit = leastUnit wall; store = a .1 .1 .0 .now; work = [] }) []

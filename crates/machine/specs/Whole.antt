@@ -17,7 +17,7 @@ use Rattle.unit.specs.UnitState.{UnitState}
 use Rattle.unit.specs.Model.{Model}
 use Rattle.unit.specs.Layout.{filtersLen}
 use Rattle.unit.specs.Room.{unitRings}
-use Rattle.unit.specs.Fresh.{freshUnit}
+use Rattle.unit.specs.Fresh.{freshUnit, leastUnit}
 use Rattle.judges.specs.Judges.{judgedFresh, judgedReset, judgedApply, judgedTail}
 use Rattle.stages.specs.Lines.{filtersOf}
 use Rattle.stages.specs.Frame.{Frame, newFilters, frameIn}
@@ -29,7 +29,7 @@ abbrev pub begun : Model → ℕ → ℕ → List Float → Ending
 begun m rate frame store =
     quietly (judgedFresh m rate frame (length store))
     (record { unit = freshUnit m rate frame; store = cleared store; work = [] })
-    (record { unit = freshUnit m 8000 4; store = store; work = [] })
+    (record { unit = leastUnit m; store = store; work = [] })
 
 -- the unit with another count
 abbrev pub counted : UnitState → ℤ → UnitState

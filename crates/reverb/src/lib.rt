@@ -15,6 +15,8 @@ use judges::judge_fresh;
 use judges::judge_reset;
 use judges::judge_tail;
 use samples::Frames;
+use samples::LOWEST_RATE;
+use samples::SHORTEST_FRAME;
 use samples::clear;
 use samples::is_accepted;
 use unit::Outcome;
@@ -35,7 +37,7 @@ pub fn fresh(rate: u32, frame: usize, store: &mut [f32]) -> Outcome
 {
     let answer = judge_fresh(rate, frame, store.len());
     if !is_accepted(answer) {
-        let state = fresh_state(8000, 4);
+        let state = fresh_state(LOWEST_RATE, SHORTEST_FRAME);
         return quiet(answer, state);
     }
     clear(store);

@@ -32,7 +32,14 @@ pub enum Answer {
     NotFinite,
 }
 
-// The longest frame, in samples.
+// The lowest rate and the highest, in samples a second.
+pub const LOWEST_RATE: u32 = 8000;
+
+pub const HIGHEST_RATE: u32 = 192000;
+
+// The shortest frame and the longest, in samples.
+pub const SHORTEST_FRAME: usize = 4;
+
 pub const LONGEST_FRAME: usize = 1024;
 
 // The number of an answer (R2.1).
@@ -107,14 +114,17 @@ pub fn and(a: bool, b: bool) -> bool
 pub fn rate_ok(rate: u32) -> bool
     ensures { λ r. ⌜ r ≡ rateOk rate ⌝ }
 {
-    and(8000 <= rate, rate <= 192000)
+    and(LOWEST_RATE <= rate, rate <= HIGHEST_RATE)
 }
 
 // Whether the unit takes frames of that many samples (R1.2).
 pub fn frame_ok(frame: usize) -> bool
     ensures { λ r. ⌜ r ≡ frameOk frame ⌝ }
 {
-    and(4 <= frame, and(frame <= LONGEST_FRAME, frame % 4 == 0))
+    and(
+        SHORTEST_FRAME <= frame,
+        and(frame <= LONGEST_FRAME, frame % 4 == 0),
+    )
 }
 
 // Whether a sample is a finite number (R3.4).

@@ -4,6 +4,7 @@ use mathlib.Core.Bool.{false}
 use lib.IntN.{pos}
 use lib.ListN.{length, replicate}
 use Rattle.samples.specs.Binary32.{+0}
+use Rattle.samples.specs.Sizes.{lowestRate, shortestFrame}
 use Rattle.delay.specs.Calls.{both}
 use Rattle.iir.specs.declared.Filter.{Filter}
 use Rattle.iir.specs.Step.{fromCoefficients}
@@ -34,3 +35,7 @@ freshUnit m rate frame = record {
   filters = replicate (filtersLen m) blank;
   held = noFrame m;
 }
+
+-- R2.33: that of a refused fresh, the lowest rate and the shortest frame
+abbrev pub leastUnit : Model → UnitState
+leastUnit m = freshUnit m lowestRate shortestFrame

@@ -9,7 +9,7 @@ use Rattle.unit.specs.declared.State.{State}
 use Rattle.unit.specs.UnitState.{ofState}
 use Rattle.unit.specs.Outcome.{outcome}
 use Rattle.unit.specs.Model.{wall}
-use Rattle.unit.specs.Fresh.{freshUnit}
+use Rattle.unit.specs.Fresh.{freshUnit, leastUnit}
 use Rattle.unit.proofs.Outcomes.{refused, let-by}
 use Rattle.judges.specs.Judges.{judgedFresh}
 use Rattle.machine.specs.Ending.{Memory, cleared}
@@ -26,7 +26,7 @@ returns c =
     let store = now (a .store) in
     let due = judgedFresh wall (a .rate) (a .frame) (length store) in
     let new : Memory = record { unit = freshUnit wall (a .rate) (a .frame); store = cleared store; work = [] } in
-    let old : Memory = record { unit = freshUnit wall 8000 4; store = store; work = [] } in
+    let old : Memory = record { unit = leastUnit wall; store = store; work = [] } in
     let e = judge .judge-fresh .ensures in
     let q = quiet-refused due _ new old _ e (refused _ due _ e (tested .before .is-accepted .ensures) (tested .if1 .taken))
     (c .quiet .ensures ∙ ap (λ (s : State). outcome (judge .judge-fresh .result) (ofState s) TailComplete) (made .fresh-state .ensures)) in
@@ -42,7 +42,7 @@ returns-2 c =
     let store = now (a .store) in
     let due = judgedFresh wall (a .rate) (a .frame) (length store) in
     let new : Memory = record { unit = freshUnit wall (a .rate) (a .frame); store = cleared store; work = [] } in
-    let old : Memory = record { unit = freshUnit wall 8000 4; store = store; work = [] } in
+    let old : Memory = record { unit = leastUnit wall; store = store; work = [] } in
     let e = judge .judge-fresh .ensures in
     let q = quiet-let-by due _ new old _ e (let-by _ due _ e (tested .before .is-accepted .ensures) (tested .if1 .left))
     (c .quiet2 .ensures ∙ ap (λ (s : State). outcome (judge .judge-fresh .result) (ofState s) TailComplete) (made .fresh-state2 .ensures)) in
