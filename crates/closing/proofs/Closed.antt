@@ -8,7 +8,7 @@ use Rattle.unit.specs.declared.State.{State}
 use Rattle.unit.specs.declared.Rings.{Rings}
 use Rattle.unit.specs.declared.Outcome.{Outcome}
 use Rattle.unit.specs.UnitState.{ofState}
-use Rattle.unit.specs.Model.{wall}
+use Rattle.unit.specs.Layout.{wall}
 use Rattle.unit.specs.Room.{unitRings, roomOk}
 use Rattle.rows.specs.Rows.{Rows, rowsOf}
 use Rattle.frame.specs.declared.Stepped.{Stepped}

@@ -8,7 +8,7 @@ use Rattle.audio_buffer.specs.Verdict.{verdictOf}
 use Rattle.iir.specs.declared.Filter.{Filter}
 use Rattle.unit.specs.declared.Outcome.{Outcome}
 use Rattle.unit.specs.UnitState.{RingCursors, UnitState}
-use Rattle.unit.specs.Model.{wall}
+use Rattle.unit.specs.Layout.{wall}
 use Rattle.unit.specs.Fresh.{noFrame}
 use Rattle.unit.specs.Outcome.{outcome}
 use Rattle.frame.specs.declared.Stepped.{Stepped}

@@ -14,7 +14,7 @@ use unit::fresh_state;
 use unit::quiet;
 ghost use mathlib.Core.Path.{_≡_};
 ghost use Rattle.unit.specs.UnitState.{ofState, toState};
-ghost use Rattle.unit.specs.Model.{wall};
+ghost use Rattle.unit.specs.Layout.{wall};
 ghost use Rattle.machine.specs.Jobs.{unitShut};
 ghost use Rattle.closing.specs.Workers.{idle, closedBy};
 

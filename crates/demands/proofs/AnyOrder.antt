@@ -14,7 +14,7 @@ use Rattle.samples.specs.Answers.{accept, accepted}
 use Rattle.samples.specs.Binary32.{+0}
 use Rattle.audio_buffer.specs.Verdict.{verdictOf}
 use Rattle.unit.specs.UnitState.{UnitState}
-use Rattle.unit.specs.Model.{Model}
+use Rattle.unit.specs.Layout.{Model}
 use Rattle.unit.specs.Room.{unitRings}
 use Rattle.unit.specs.Fresh.{noFrame}
 use Rattle.judges.specs.Marks.{allDone}

@@ -14,10 +14,9 @@ use Rattle.iir.specs.declared.Filter.{Filter}
 use Rattle.hadamard.specs.Rows.{mixedRows}
 use Rattle.hadamard.proofs.Laws.{rows-length}
 use Rattle.unit.specs.UnitState.{UnitState}
-use Rattle.unit.specs.Model.{Model}
+use Rattle.unit.specs.Layout.{Model, lengths, total, allpassIn, storeLen, workLen, filtersLen, mixMark, lineMark, outputMark}
 use Rattle.unit.specs.Room.{unitRings}
-use Rattle.unit.specs.Layout.{lengths, total, filtersLen, storeLen, workLen, mixMark, lineMark, outputMark}
-use Rattle.stages.specs.Frame.{Frame, frameIn, allpassIn, lineRows}
+use Rattle.stages.specs.Frame.{Frame, frameIn, lineRows}
 use Rattle.stages.proofs.RowLaws.{Held, length-readRows, length-bandEnds}
 use Rattle.stages.proofs.FrameLaws.{put-beside, out-long}
 use Rattle.rows.specs.Rows.{Rows, rowsOf, joinedRows}

@@ -14,8 +14,7 @@ use Rattle.iir.specs.declared.Filter.{Filter}
 use Rattle.iir.specs.Nine.{blankFilter}
 use Rattle.iir.proofs.Laws.{nine-each}
 use Rattle.unit.specs.UnitState.{UnitState}
-use Rattle.unit.specs.Model.{Model}
-use Rattle.unit.specs.Layout.{lengths, Sized}
+use Rattle.unit.specs.Layout.{Model, lengths, Sized}
 use Rattle.unit.specs.Fresh.{blank, noFrame}
 use Rattle.unit.specs.Range.{inRange, cursorsIn, isZero, unmarked, blankFilters, blankOpen}
 use Rattle.demands.proofs.Lent.{not-is}

@@ -16,11 +16,11 @@ use Rattle.hadamard.proofs.Laws.{rows-length}
 use Rattle.iir.specs.declared.Filter.{Filter}
 use Rattle.iir.specs.Runs.{bandsOut, bandsEnd}
 use Rattle.iir.proofs.Laws.{bands-length}
-use Rattle.unit.specs.Layout.{total}
+use Rattle.unit.specs.Layout.{total, stretch}
 use Rattle.allpass.specs.Passes.{passEnd}
 use Rattle.allpass.proofs.Stages.{pass-rings}
 use Rattle.stages.specs.Lines.{noFilter, bandRows, three, threeOf, bandEnds, plus, addRows}
-use Rattle.stages.specs.Frame.{stretch, stageAt, allpassOf, lineRows, outputRow}
+use Rattle.stages.specs.Frame.{stageAt, allpassOf, lineRows, outputRow}
 use Rattle.stages.proofs.RowLaws.{byBands, peel, length-plus, length-bandRows}
 use Rattle.samples.proofs.Stacked.{getD-row}
 

@@ -16,10 +16,9 @@ use Rattle.iir.specs.declared.Filter.{Filter}
 use Rattle.iir.specs.Runs.{bandsOut, bandsEnd}
 use Rattle.hadamard.specs.Rows.{mixedRows}
 use Rattle.unit.specs.UnitState.{UnitState}
-use Rattle.unit.specs.Model.{Model}
-use Rattle.unit.specs.Layout.{lengths, jobsLen, mixMark, lineMark, outputMark}
+use Rattle.unit.specs.Layout.{Model, lengths, allpassIn, jobsLen, mixMark, lineMark, outputMark}
 use Rattle.stages.specs.Lines.{noFilter, three, threeOf, plus}
-use Rattle.stages.specs.Frame.{Frame, OutputRow, frameIn, allpassIn, lineRows, newFilters}
+use Rattle.stages.specs.Frame.{Frame, OutputRow, frameIn, lineRows, newFilters}
 use Rattle.judges.specs.Marks.{allDone}
 use Rattle.rows.specs.Rows.{Rows, rowsOf, joinedRows}
 use Rattle.rows.specs.Parts.{lineIn, lineLaid, lineEnds}

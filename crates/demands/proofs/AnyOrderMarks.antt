@@ -8,8 +8,7 @@ use native.Mathlib.Omega.{arith}
 use lib.ListN.{length, getD, set, take, replicate, length-set, length-take, length-replicate, getD-replicate}
 use lib.Seq.{getD-set-same, getD-set-other, getD-take}
 use Rattle.samples.proofs.Laws.{all-at}
-use Rattle.unit.specs.Model.{Model}
-use Rattle.unit.specs.Layout.{jobsLen, mixMark, lineMark, outputMark}
+use Rattle.unit.specs.Layout.{Model, jobsLen, mixMark, lineMark, outputMark}
 use Rattle.judges.specs.Marks.{allDone}
 
 abbrev pub at : List Bool → ℕ → Bool

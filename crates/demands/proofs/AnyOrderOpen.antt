@@ -14,8 +14,7 @@ use Rattle.samples.specs.Sizes.{rateOk, frameOk}
 use Rattle.samples.proofs.Laws.{split-and, join-and, frame-of}
 use Rattle.iir.specs.declared.Filter.{Filter}
 use Rattle.unit.specs.UnitState.{UnitState}
-use Rattle.unit.specs.Model.{Model}
-use Rattle.unit.specs.Layout.{lengths, filtersLen, jobsLen, storeLen, workLen, coefficientsLen}
+use Rattle.unit.specs.Layout.{Model, lengths, storeLen, workLen, filtersLen, coefficientsLen, jobsLen}
 use Rattle.unit.specs.Range.{inRange, cursorsIn}
 use Rattle.unit.specs.Room.{lentOk}
 use Rattle.judges.specs.Judges.{judged, storeOk, workOk, givenOk, judgedGiven}

@@ -11,8 +11,7 @@ use lib.ListN.{set}
 use Rattle.samples.specs.declared.Answer.the-variants.{Accepted}
 use Rattle.samples.specs.Answers.{accepted}
 use Rattle.samples.proofs.Laws.{split-and, is-accepted, accept-no}
-use Rattle.unit.specs.Model.{Model}
-use Rattle.unit.specs.Layout.{mixMark, lineMark, outputMark}
+use Rattle.unit.specs.Layout.{Model, mixMark, lineMark, outputMark}
 use Rattle.judges.specs.Marks.{allRead}
 use Rattle.machine.specs.Jobs.{Job, readJob, mixJob, lineJob, outputJob, markOf}
 use Rattle.machine.specs.Ending.{Memory, Ending}

@@ -4,7 +4,7 @@ use mathlib.Core.Bool.{true}
 use mathlib.Core.List.{List, [], _∷_}
 use mathlib.Core.Logic.{_⊎_, inl, inr}
 use Rattle.samples.proofs.Laws.{accept-either}
-use Rattle.unit.specs.Model.{Model, wall}
+use Rattle.unit.specs.Layout.{Model, wall}
 use Rattle.unit.specs.Fresh.{noFrame}
 use Rattle.machine.specs.Ending.{Memory, Ending}
 use Rattle.machine.specs.Jobs.{Job}

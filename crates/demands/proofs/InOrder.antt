@@ -15,8 +15,7 @@ use lib.Seq.{getD-take}
 use Rattle.samples.specs.declared.Answer.the-variants.{Accepted}
 use Rattle.samples.specs.Lists.{allFrom}
 use Rattle.samples.proofs.Laws.{join-and}
-use Rattle.unit.specs.Model.{Model}
-use Rattle.unit.specs.Layout.{jobsLen, mixMark, lineMark, outputMark}
+use Rattle.unit.specs.Layout.{Model, jobsLen, mixMark, lineMark, outputMark}
 use Rattle.unit.specs.Range.{inRange}
 use Rattle.judges.specs.Judges.{storeOk, workOk}
 use Rattle.judges.specs.Marks.{allDone, allRead}

@@ -17,8 +17,7 @@ use Rattle.delay.proofs.Laws.{all-write, accept-either}
 use Rattle.iir.specs.declared.Filter.{Filter}
 use Rattle.iir.specs.Nine.{nine, finiteFilter}
 use Rattle.unit.specs.UnitState.{UnitState}
-use Rattle.unit.specs.Model.{Model}
-use Rattle.unit.specs.Layout.{filtersLen}
+use Rattle.unit.specs.Layout.{Model, filtersLen}
 use Rattle.unit.specs.Fresh.{blank}
 use Rattle.judges.specs.Judges.{judgedFresh}
 use Rattle.stages.specs.Frame.{Frame, newFilters}

@@ -1,5 +1,5 @@
 -- What an accepted call tells of the unit and of what it was lent. Assumes nothing.
-use Prim.Native.Nat.{ℕ, _+_, _*_, _<_}
+use Prim.Native.Nat.{ℕ, _*_, _<_}
 use mathlib.Core.Path.{_≡_, refl, sym}
 use mathlib.Core.Bool.{Bool, true, false, not, _&&_}
 use mathlib.Core.List.{List}
@@ -18,8 +18,7 @@ use Rattle.delay.specs.declared.Cursors.{Cursors}
 use Rattle.delay.specs.Calls.{both}
 use Rattle.delay.proofs.Laws.{accept-either}
 use Rattle.unit.specs.UnitState.{UnitState}
-use Rattle.unit.specs.Model.{Model}
-use Rattle.unit.specs.Layout.{lengths, coefficientsLen, storeLen, workLen}
+use Rattle.unit.specs.Layout.{Model, lengths, storeLen, workLen, coefficientsLen}
 use Rattle.unit.specs.Fresh.{freshUnit}
 use Rattle.unit.specs.Range.{inRange, below, cursorsIn}
 use Rattle.unit.specs.Room.{lentOk}

@@ -21,8 +21,7 @@ use Rattle.samples.proofs.Laws.{split-and, is-accepted, accept-no}
 use Rattle.delay.specs.Calls.{both}
 use Rattle.delay.proofs.Laws.{accept-either, rotl-same}
 use Rattle.unit.specs.UnitState.{UnitState}
-use Rattle.unit.specs.Model.{Model}
-use Rattle.unit.specs.Layout.{lengths, jobsLen, storeLen, workLen, mixMark, lineMark, outputMark}
+use Rattle.unit.specs.Layout.{Model, lengths, storeLen, workLen, jobsLen, mixMark, lineMark, outputMark}
 use Rattle.unit.specs.Fresh.{freshUnit}
 use Rattle.judges.specs.Judges.{storeOk, workOk}
 use Rattle.stages.specs.Frame.{frameIn, newFilters}

@@ -14,10 +14,8 @@ use Rattle.delay.specs.Ring.{read, write}
 use Rattle.delay.proofs.Laws.{length-read, length-write}
 use Rattle.unit.proofs.Ranges.{length-at, lengths-long}
 use Rattle.unit.specs.UnitState.{UnitState}
-use Rattle.unit.specs.Model.{Model}
-use Rattle.unit.specs.Layout.{total, lengths}
+use Rattle.unit.specs.Layout.{Model, lengths, total, stretch}
 use Rattle.stages.specs.Lines.{readRows}
-use Rattle.stages.specs.Frame.{stretch}
 use Rattle.stages.specs.Settle.{putRows, movedBy, allMoved}
 use Rattle.stages.proofs.RowLaws.{Held, total-more}
 

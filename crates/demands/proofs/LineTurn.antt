@@ -16,9 +16,7 @@ use Rattle.delay.specs.Calls.{both}
 use Rattle.delay.specs.Ring.{rotl, wrap}
 use Rattle.delay.proofs.Laws.{wrap-mod, read-view, length-rotl, length-read, turn-view}
 use Rattle.unit.specs.UnitState.{UnitState}
-use Rattle.unit.specs.Model.{Model}
-use Rattle.unit.specs.Layout.{lengths, storeLen, workLen}
-use Rattle.stages.specs.Frame.{stretch}
+use Rattle.unit.specs.Layout.{Model, lengths, stretch, storeLen, workLen}
 use Rattle.stages.specs.Settle.{putRows, movedBy, allMoved}
 use Rattle.stages.proofs.RowLaws.{Held}
 use Rattle.rows.specs.Rows.{Rows, rowsOf}

@@ -23,8 +23,7 @@ use Rattle.delay.specs.Calls.{both}
 use Rattle.hadamard.specs.Rows.{mixedRows}
 use Rattle.iir.specs.Nine.{nine}
 use Rattle.unit.specs.UnitState.{Settings, UnitState}
-use Rattle.unit.specs.Model.{Model}
-use Rattle.unit.specs.Layout.{lengthsFrom, lengths, filtersLen, jobsLen}
+use Rattle.unit.specs.Layout.{Model, lengthsFrom, lengths, filtersLen, jobsLen}
 use Rattle.unit.specs.Fresh.{blank, noFrame, freshUnit}
 use Rattle.unit.specs.Range.{below, cursorsIn, unmarked, blankFilters, blankOpen, inRange}
 use Rattle.judges.specs.Judges.{judgedFresh}

@@ -16,7 +16,7 @@ use Rattle.search.specs.Search.{firstBad, allFinite}
 use Rattle.bands.specs.declared.Times.{Times}
 use Rattle.bands.specs.Times.{timesOk}
 use Rattle.unit.specs.UnitState.{UnitState}
-use Rattle.unit.specs.Model.{Model}
+use Rattle.unit.specs.Layout.{Model}
 use Rattle.unit.specs.Range.{inRange}
 use Rattle.unit.specs.Room.{lentOk}
 use Rattle.judges.specs.Judges.{judged, judgedGiven, badInput, judgedFresh, givenOk, storeOk, workOk}

@@ -8,7 +8,7 @@ use Rattle.samples.specs.declared.Answer.{Answer}
 use Rattle.samples.specs.Answers.{accept, accepted}
 use Rattle.samples.proofs.Laws.{is-accepted, accept-no}
 use Rattle.unit.specs.declared.Outcome.{Outcome}
-use Rattle.unit.specs.Model.{wall}
+use Rattle.unit.specs.Layout.{wall}
 use Rattle.unit.specs.Fresh.{leastUnit}
 use Rattle.machine.specs.Ending.{Memory, Ending, outcomeOf, refused, quietly}
 use Rattle.machine.specs.Calls.{ending}

@@ -8,11 +8,10 @@ use Rattle.delay.specs.declared.Cursors.{Cursors}
 use Rattle.delay.specs.Calls.{both}
 use Rattle.delay.proofs.Laws.{accept-either}
 use Rattle.unit.specs.UnitState.{UnitState}
-use Rattle.unit.specs.Model.{Model}
+use Rattle.unit.specs.Layout.{Model, lengths}
 use Rattle.unit.specs.Fresh.{freshUnit}
 use Rattle.judges.specs.Judges.{judgedFresh}
 use Rattle.stages.specs.Settle.{allMoved}
-use Rattle.unit.specs.Layout.{lengths}
 use Rattle.machine.specs.Ending.{Memory, Ending}
 use Rattle.machine.proofs.Cases.{whole-either, close-either}
 use Rattle.machine.specs.Calls.{ending, Call, reset, whole, start, job, close, abandon, answer, after}

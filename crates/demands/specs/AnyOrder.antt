@@ -8,8 +8,7 @@ use lib.Ieee.{Float}
 use lib.ListN.{length}
 use Rattle.samples.specs.declared.Answer.the-variants.{Accepted, NotFinite}
 use Rattle.unit.specs.UnitState.{UnitState}
-use Rattle.unit.specs.Model.{Model}
-use Rattle.unit.specs.Layout.{Sized}
+use Rattle.unit.specs.Layout.{Model, Sized}
 use Rattle.judges.specs.Marks.{allDone}
 use Rattle.machine.specs.Ending.{Memory, refused}
 use Rattle.machine.specs.Whole.{Play, wiped, atOnce}

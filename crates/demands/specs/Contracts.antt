@@ -9,7 +9,7 @@ use borrow.Fn.Kinds as Kinds'
 use denote.Triple.Clauses
 use Rattle.samples.specs.declared.Answer.the-variants.{NotFinite}
 use Rattle.unit.specs.declared.Outcome.{Outcome}
-use Rattle.unit.specs.Model.{wall}
+use Rattle.unit.specs.Layout.{wall}
 use Rattle.machine.specs.Ending.{Memory, lend, Ending, refused}
 use Rattle.machine.specs.Calls.{Call, ending}
 use Rattle.machine.specs.Requests.{refusal}

@@ -8,7 +8,7 @@ use Rattle.samples.specs.declared.Answer.the-variants.{Accepted}
 use Rattle.search.specs.Search.{allFinite}
 use Rattle.iir.specs.declared.Filter.{Filter}
 use Rattle.unit.specs.UnitState.{UnitState}
-use Rattle.unit.specs.Model.{Model}
+use Rattle.unit.specs.Layout.{Model}
 use Rattle.judges.specs.Judges.{judgedFresh}
 use Rattle.stages.specs.Settle.{filtersFinite}
 use Rattle.machine.specs.Ending.{Memory}

@@ -11,8 +11,7 @@ use Rattle.samples.specs.declared.Answer.the-variants.{Accepted, NotFinite}
 use Rattle.samples.specs.Binary32.{+0}
 use Rattle.samples.specs.Lists.{allFrom}
 use Rattle.unit.specs.UnitState.{UnitState}
-use Rattle.unit.specs.Model.{Model, wall}
-use Rattle.unit.specs.Layout.{lengths, Sized}
+use Rattle.unit.specs.Layout.{Model, wall, lengths, Sized}
 use Rattle.unit.specs.Fresh.{noFrame}
 use Rattle.unit.specs.Range.{inRange}
 use Rattle.judges.specs.Judges.{judgedFresh}

@@ -13,9 +13,8 @@ use Rattle.samples.specs.Answers.{accept}
 use Rattle.samples.specs.Binary32.{+0}
 use Rattle.delay.specs.Calls.{both}
 use Rattle.unit.specs.UnitState.{UnitState}
-use Rattle.unit.specs.Model.{Model}
+use Rattle.unit.specs.Layout.{Model, lengths, Sized}
 use Rattle.judges.specs.Judges.{judgedFresh}
-use Rattle.unit.specs.Layout.{lengths, Sized}
 use Rattle.rows.specs.Rows.{rowsOf}
 use Rattle.machine.specs.Whole.{Play, frameFor}
 use Rattle.machine.specs.Ending.{Memory}

@@ -6,7 +6,7 @@ use mathlib.Core.Bool.{true, cond}
 use mathlib.Core.List.{List, []}
 use lib.Ieee.{Float}
 use Rattle.samples.specs.declared.Answer.the-variants.{Accepted, NotFinite}
-use Rattle.unit.specs.Model.{Model}
+use Rattle.unit.specs.Layout.{Model}
 use Rattle.unit.specs.Fresh.{leastUnit}
 use Rattle.machine.specs.Ending.{Memory, refused}
 use Rattle.machine.specs.Whole.{begun, wiped}

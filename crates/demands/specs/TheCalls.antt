@@ -6,7 +6,7 @@ use contract.Lifetimes
 use borrow.Fn.Kinds as Kinds'
 use denote.Triple.Clauses
 use Rattle.samples.specs.declared.Answer.the-variants.{Accepted}
-use Rattle.unit.specs.Model.{wall}
+use Rattle.unit.specs.Layout.{wall}
 use Rattle.unit.specs.Fresh.{leastUnit}
 use Rattle.machine.specs.Ending.{lend, refused}
 use Rattle.machine.specs.Whole.{apply, tail, begun}

@@ -10,7 +10,8 @@ use lib.Seq.{length-take-le}
 use Rattle.samples.specs.Binary32.{+0}
 use Rattle.iir.specs.declared.Filter.{Filter}
 use Rattle.unit.specs.declared.Rings.{Rings}
-use Rattle.stages.specs.Frame.{Frame, newFilters, allpassIn, frameIn}
+use Rattle.unit.specs.Layout.{allpassIn}
+use Rattle.stages.specs.Frame.{Frame, newFilters, frameIn}
 use Rattle.stages.specs.Settle.{frameFinite, settled}
 use Rattle.stages.proofs.RowLaws.{length-readRows}
 use Rattle.stages.proofs.FrameLaws.{put-beside, out-long}

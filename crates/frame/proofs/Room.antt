@@ -13,8 +13,7 @@ use Rattle.samples.proofs.Laws.{split-and, frame-of}
 use Rattle.delay.specs.declared.Cursors.{Cursors}
 use Rattle.delay.specs.Calls.{both}
 use Rattle.unit.specs.declared.Rings.{Rings}
-use Rattle.unit.specs.Model.{wall}
-use Rattle.unit.specs.Layout.{total, storeLen, workLen}
+use Rattle.unit.specs.Layout.{wall, total, storeLen, workLen}
 use Rattle.unit.specs.Range.{cursorsIn}
 use Rattle.unit.specs.Room.{ringsHold, passesAre, roomOk}
 use Rattle.unit.proofs.Ranges.{Below, cursors-at, holds-at, passes-same}

@@ -7,7 +7,7 @@ use lib.ListN.{length, take, replicate}
 use Rattle.samples.specs.Binary32.{+0}
 use Rattle.iir.specs.declared.Filter.{Filter}
 use Rattle.unit.specs.declared.Rings.{Rings}
-use Rattle.unit.specs.Model.{Model}
+use Rattle.unit.specs.Layout.{Model}
 use Rattle.unit.specs.Room.{roomOk}
 use Rattle.stages.specs.Frame.{Frame, newFilters, frameIn}
 use Rattle.stages.specs.Settle.{frameFinite, settled, allMoved}

@@ -7,8 +7,7 @@ use Rattle.samples.specs.Sizes.{longestFrame}
 use Rattle.delay.specs.declared.Cursors.{Cursors}
 use Rattle.delay.specs.Calls.{longestRing, both}
 use Rattle.unit.specs.declared.Rings.{Rings}
-use Rattle.unit.specs.Model.{Model, wall}
-use Rattle.unit.specs.Layout.{total, ringsPlace}
+use Rattle.unit.specs.Layout.{Model, wall, total, placesOf}
 use Rattle.frame.specs.declared.Stepped.{Stepped}
 use Rattle.frame.specs.declared.whole.Judged.{Judged}
 
@@ -50,7 +49,7 @@ pub record FrameFits (n f : ℕ) (r : Rings) (store work : ℕ) : Type 0 where
   pub four : length (r .passes .lengths) ≡ length (wall .passLengths)
   pub rest : linesLen n r ≡ total (r .lines .lengths)
   pub store-is : store ≡ total (r .lines .lengths) + total (r .passes .lengths)
-  pub work-is : work ≡ ringsPlace n f + total (r .passes .lengths)
+  pub work-is : work ≡ placesOf n f .rings + total (r .passes .lengths)
 
 -- the cursors of all rings of model m are within them
 pub record AllWithin (m : Model) (r : Rings) : Type 0 where
@@ -68,8 +67,8 @@ pub record WholeFits (m : Model) (f : ℕ) (r : Rings) (store work output : ℕ)
 -- what settling a frame of n lines asks: the lines' rings, and as many floats after them as after the rows in the work memory
 pub record SettleFits (n f : ℕ) (r : Rings) (store work output : ℕ) : Type 0 where
   pub lines : LinesFit n f r store (n * f)
-  pub rows : ringsPlace n f ≤ work
-  pub rings : linesLen n r + work ≡ store + ringsPlace n f
+  pub rows : placesOf n f .rings ≤ work
+  pub rings : linesLen n r + work ≡ store + placesOf n f .rings
   pub out : output ≡ f
 
 -- what a frame came to but for the cursors: whether all of it is finite, and its filters

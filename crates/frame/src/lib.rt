@@ -22,7 +22,7 @@ ghost use mathlib.Core.Path.{_≡_};
 ghost use Prim.Native.Nat.{_≤_};
 ghost use lib.ListN.{length};
 ghost use Rattle.samples.specs.Sizes.{longestFrame};
-ghost use Rattle.unit.specs.Model.{wall};
+ghost use Rattle.unit.specs.Layout.{wall};
 ghost use Rattle.frame.specs.Workers.{AllWithin, WholeFits};
 ghost use Rattle.frame.specs.Steps.{steppedOn, ran, ranWithRoom, finished, finishedWithRoom};
 

@@ -12,7 +12,7 @@ ghost use mathlib.Core.List.{_++_};
 ghost use Prim.Native.Nat.{_+_, _-_, _<_, _≤_};
 ghost use lib.ListN.{length, take, drop};
 ghost use Rattle.delay.specs.Calls.{longestRing};
-ghost use Rattle.unit.specs.Model.{wall};
+ghost use Rattle.unit.specs.Layout.{wall};
 ghost use Rattle.stages.specs.Frame.{readsOf};
 ghost use Rattle.stages.specs.Settle.{settled, movedBy, allMoved};
 ghost use Rattle.frame.specs.Workers.{LinesFit, Within, linesLen};

@@ -10,13 +10,14 @@ use samples::clear;
 use search::all_finite;
 use unit::FILTERS;
 use unit::Rings;
+use unit::work_places;
 ghost use mathlib.Core.Path.{_≡_};
 ghost use mathlib.Core.Bool.{cond};
 ghost use mathlib.Core.List.{_++_};
 ghost use Prim.Native.Nat.{_+_, _*_, _<_, _≤_};
 ghost use lib.ListN.{length, take, drop};
-ghost use Rattle.unit.specs.Model.{wall};
-ghost use Rattle.unit.specs.Layout.{filtersLen, mixedPlace, outputPlace};
+ghost use Rattle.delay.specs.Calls.{longestRing};
+ghost use Rattle.unit.specs.Layout.{wall, placesOf, filtersLen};
 ghost use Rattle.stages.specs.Frame.{lineRows, newFilters, readsOf, frameIn};
 ghost use Rattle.stages.specs.Settle.{settled};
 ghost use Rattle.rows.specs.Rows.{rowsOf, joinedRows};
@@ -43,12 +44,14 @@ pub(crate) fn play_lines(
     rows: &mut [f32],
 ) -> [Filter; FILTERS]
     requires { ⌜ LinesFit n f rings (length (now store)) (n * f) ⌝ }
-    requires { ⌜ (0 < n) × (length (now rows) ≡ outputPlace n f) ⌝ }
+    requires { ⌜ (0 < n) × (length (now rows) ≡ placesOf n f .output) ⌝ }
     ensures { λ r. ⌜ r ≡ lineRows n f factor tail fs (take f (now (rows .entry))) (readsOf n f rings (now (store .entry))) .filters ++ drop (3 * n) fs ⌝ }
     ensures { λ _. ⌜ now (rows .exit) ≡ take f (now (rows .entry)) ++ (readsOf n f rings (now (store .entry)) ++ lineRows n f factor tail fs (take f (now (rows .entry))) (readsOf n f rings (now (store .entry))) .put) ⌝ }
 {
-    let at = f + n * f;
-    read_lines(n, f, rings, store, &mut rows[f..at]);
+    let p = work_places(n, f);
+    let reads = p.reads;
+    let mixed = p.mixed;
+    read_lines(n, f, rings, store, &mut rows[reads..mixed]);
     line_rows(n, f, factor, tail, fs, rows)
 }
 
@@ -68,22 +71,25 @@ pub(crate) fn frame_rows(
     ensures { λ r. ⌜ r ≡ newFilters (frameIn n f factor divisor tail rings fs (take f (now (work .entry))) (now (store .entry))) ++ drop (3 * n + 3) fs ⌝ }
     ensures { λ _. ⌜ now (work .exit) ≡ joinedRows (rowsIn (take f (now (work .entry))) (frameIn n f factor divisor tail rings fs (take f (now (work .entry))) (now (store .entry)))) ⌝ }
 {
-    let at = f + n * f + n * f;
-    let b = at + f;
-    let a = store.len() - (work.len() - b);
-    stages::copy(&store[a..], &mut work[b..]);
-    let gs = play_lines(n, f, factor, tail, rings, fs, store, &mut work[0..at]);
-    output_row(n, f, divisor, rings, gs, &mut work[f..])
+    let p = work_places(n, f);
+    let reads = p.reads;
+    let output = p.output;
+    let last = p.rings;
+    let a = store.len() - (work.len() - last);
+    stages::copy(&store[a..], &mut work[last..]);
+    let gs = play_lines(n, f, factor, tail, rings, fs, store, &mut work[0..output]);
+    output_row(n, f, divisor, rings, gs, &mut work[reads..])
 }
 
 // Whether all that a frame would keep or hand out is finite: the filters, and the work memory from
 // the rows to put on.
 pub(crate) fn frame_finite(n: usize, f: usize, fs: [Filter; FILTERS], work: &[f32]) -> bool
-    requires { ⌜ mixedPlace n f ≤ length (now work) ⌝ }
+    requires { ⌜ (n ≤ wall .lines) × (f ≤ longestRing) × (placesOf n f .mixed ≤ length (now work)) ⌝ }
     ensures { λ r. ⌜ r ≡ rowsFinite fs (rowsOf n f (now (work .entry))) ⌝ }
 {
-    let at = f + n * f;
-    and(stages::filters_finite(fs), all_finite(&work[at..], f))
+    let p = work_places(n, f);
+    let mixed = p.mixed;
+    and(stages::filters_finite(fs), all_finite(&work[mixed..], f))
 }
 
 // Puts the rows of a frame into the lines and its allpass rings after them, and hands its output out.
@@ -99,11 +105,12 @@ pub(crate) fn settle_frame(
     ensures { λ _. ⌜ now (store .exit) ≡ settled n f rings (rowsOf n f (now (work .entry)) .mixed) (rowsOf n f (now (work .entry)) .rings) (now (store .entry)) ⌝ }
     ensures { λ _. ⌜ now (output .exit) ≡ rowsOf n f (now (work .entry)) .output ⌝ }
 {
-    let a = f + n * f;
-    let p = a + n * f;
-    let e = p + f;
-    settle(n, f, rings, &work[a..p], &work[e..], store);
-    stages::copy(&work[p..e], output);
+    let p = work_places(n, f);
+    let mixed = p.mixed;
+    let out = p.output;
+    let last = p.rings;
+    settle(n, f, rings, &work[mixed..out], &work[last..], store);
+    stages::copy(&work[out..last], output);
 }
 
 // The same if `ok`, and else nothing.

@@ -20,8 +20,7 @@ use Rattle.hadamard.proofs.Laws.{rows-accepted, rows-joined}
 use Rattle.delay.specs.Calls.{both}
 use Rattle.iir.specs.declared.Filter.{Filter}
 use Rattle.unit.specs.UnitState.{UnitState}
-use Rattle.unit.specs.Model.{wall}
-use Rattle.unit.specs.Layout.{lengths, storeLen}
+use Rattle.unit.specs.Layout.{wall, lengths, storeLen}
 use Rattle.unit.specs.Range.{inRange, cursorsIn}
 use Rattle.unit.specs.Room.{unitRings, ringsHold}
 use Rattle.unit.proofs.Ranges.{lengths-long}
@@ -61,17 +60,17 @@ module _ (f : ℕ) (w : List Float) (h : WorkFits wall f (length w)) where
   length-mixed = part-long (f + k) w k (omega (arith, h .work-is))
 
   -- the mix is lent the rows read and mixed
-  pub mix-laid : (x : List Float) (a : Answer)
-      → let v = take (33 * f - f) (drop f w) in
-      (a ≡ judgedRows 16 (length v)) × (x ≡ accept a (rowsMixed 16 (wall .factor) v) v) → putMid f (33 * f - f) w x ≡ mixLaid wall f w
+  pub mix-laid : (b e : ℕ) (x : List Float) (a : Answer) → b ≡ f → e ≡ f + k + k
+      → let v = take (e - b) (drop b w) in
+      (a ≡ judgedRows 16 (length v)) × (x ≡ accept a (rowsMixed 16 (wall .factor) v) v) → putMid b (e - b) w x ≡ mixLaid wall f w
   unfolding mixLaid rowsOf joinedRows
-  mix-laid x a e =
+  mix-laid b e x a eb ee q =
       let all : w ≡ take f w ++ ((reads ++ mixed) ++ rest) = all-rows 16 f w ∙ ap (λ (l : List Float). take f w ++ l) (sym (append-assoc reads mixed rest)) in
       let both : length (reads ++ mixed) ≡ k + k = length-append reads mixed ∙ (λ i. length-reads i + length-mixed i) in
-      let m = middle f (33 * f) (take f w) (reads ++ mixed) rest w all (length-take-le f w (omega (arith, h .work-is))) (omega (arith, both)) in
-      let ok : a ≡ Accepted = e .0 ∙ rw (m .0) (rows-accepted 16 f (length (reads ++ mixed)) (omega (arith, both))) in
+      let m = middle b e (take f w) (reads ++ mixed) rest w all (length-take-le f w (omega (arith, h .work-is)) ∙ sym eb) (omega (arith, both)) in
+      let ok : a ≡ Accepted = q .0 ∙ rw (m .0) (rows-accepted 16 f (length (reads ++ mixed)) (omega (arith, both))) in
       let new : x ≡ reads ++ mixedRows 16 f (wall .factor) reads =
-      e .1 ∙ rw (ok, m .0, rows-joined 16 f (wall .factor) reads mixed (omega arith) length-reads length-mixed) refl in
+      q .1 ∙ rw (ok, m .0, rows-joined 16 f (wall .factor) reads mixed (omega arith) length-reads length-mixed) refl in
       m .1 x ∙ rw (new, append-assoc) refl
 
 -- ---- a job that was let by found room

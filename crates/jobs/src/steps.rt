@@ -3,14 +3,13 @@ use iir::Filter;
 use unit::FACTOR;
 use unit::FILTERS;
 use unit::LINES;
-use unit::OUTPUT_ROW;
 use unit::State;
+use unit::work_places;
 ghost use mathlib.Core.Path.{_≡_};
 ghost use Prim.Native.Nat.{_<_};
 ghost use lib.ListN.{length};
 ghost use Rattle.unit.specs.UnitState.{ofState, toState};
-ghost use Rattle.unit.specs.Model.{wall};
-ghost use Rattle.unit.specs.Layout.{jobsLen};
+ghost use Rattle.unit.specs.Layout.{wall, jobsLen};
 ghost use Rattle.rows.specs.Workers.{WorkFits};
 ghost use Rattle.machine.specs.Jobs.{unitMarked, mixLaid};
 
@@ -30,6 +29,8 @@ pub(crate) fn mix_rows(f: usize, work: &mut [f32])
     requires { ⌜ WorkFits wall f (length (now work)) ⌝ }
     ensures { λ _. ⌜ now (work .exit) ≡ mixLaid wall f (now (work .entry)) ⌝ }
 {
-    let e = OUTPUT_ROW * f;
-    mixer::mix_rows(LINES, FACTOR, &mut work[f..e]);
+    let p = work_places(LINES, f);
+    let reads = p.reads;
+    let output = p.output;
+    mixer::mix_rows(LINES, FACTOR, &mut work[reads..output]);
 }

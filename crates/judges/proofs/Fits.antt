@@ -17,8 +17,7 @@ use Rattle.bands.specs.Times.{timesOk}
 use Rattle.bands.specs.Tail.{tailCount, countOf}
 use Rattle.unit.specs.declared.Rings.{Rings}
 use Rattle.unit.specs.UnitState.{UnitState}
-use Rattle.unit.specs.Model.{wall}
-use Rattle.unit.specs.Layout.{lengths, workLen}
+use Rattle.unit.specs.Layout.{wall, lengths, workLen}
 use Rattle.unit.specs.Range.{cursorsIn, inRange, blankOpen}
 use Rattle.unit.specs.Room.{ringsWith, unitRings, roomOk, lentOk}
 use Rattle.judges.specs.Judges.{judged, judgedApply, judgedGiven, storeOk, givenOk}

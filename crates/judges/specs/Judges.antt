@@ -15,8 +15,7 @@ use Rattle.samples.specs.Sizes.{rateOk, frameOk}
 use Rattle.bands.specs.declared.Times.{Times}
 use Rattle.bands.specs.Times.{timesOk}
 use Rattle.unit.specs.UnitState.{UnitState}
-use Rattle.unit.specs.Model.{Model}
-use Rattle.unit.specs.Layout.{lengths, storeLen, workLen, coefficientsLen}
+use Rattle.unit.specs.Layout.{Model, lengths, storeLen, workLen, coefficientsLen}
 use Rattle.unit.specs.Fresh.{freshUnit}
 use Rattle.unit.specs.Range.{inRange}
 use Rattle.unit.specs.Room.{lentOk}

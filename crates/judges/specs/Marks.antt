@@ -5,7 +5,7 @@ use mathlib.Core.List.{List}
 use lib.ListN.{getD, take}
 use Rattle.samples.specs.Lists.{allFrom}
 use Rattle.unit.specs.UnitState.{UnitState}
-use Rattle.unit.specs.Model.{Model}
+use Rattle.unit.specs.Layout.{Model}
 
 -- R5.2: whether the job of mark k is done
 abbrev pub marked : UnitState → ℕ → Bool

@@ -9,9 +9,8 @@ use Rattle.samples.specs.declared.Answer.{Answer}
 use Rattle.samples.specs.Answers.{orElse}
 use Rattle.bands.specs.declared.Times.{Times}
 use Rattle.unit.specs.UnitState.{UnitState}
-use Rattle.unit.specs.Model.{Model}
+use Rattle.unit.specs.Layout.{Model, mixMark, lineMark, outputMark}
 use Rattle.unit.specs.Room.{lentOk}
-use Rattle.unit.specs.Layout.{mixMark, lineMark, outputMark}
 use Rattle.judges.specs.Judges.{judged, storeOk, workOk, givenOk, judgedGiven}
 use Rattle.judges.specs.Marks.{marked, allDone, allRead}
 

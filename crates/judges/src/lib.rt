@@ -34,7 +34,7 @@ use unit::store_ok;
 ghost use mathlib.Core.Path.{_≡_};
 ghost use Rattle.samples.specs.Answers.{orElse};
 ghost use Rattle.unit.specs.UnitState.{ofState};
-ghost use Rattle.unit.specs.Model.{wall};
+ghost use Rattle.unit.specs.Layout.{wall};
 ghost use Rattle.judges.specs.Judges.{judged, judgedFresh, judgedReset, judgedTail, judgedApply, judgedGiven, badInput};
 
 // A call on a state: `lent` says that every lent slice has its length, `line` that the line is

@@ -7,8 +7,7 @@ ghost use mathlib.Core.Path.{_≡_};
 ghost use mathlib.Core.Bool.{false};
 ghost use Prim.Native.Nat.{_+_, _≤_};
 ghost use lib.ListN.{getD, take};
-ghost use Rattle.unit.specs.Model.{wall};
-ghost use Rattle.unit.specs.Layout.{jobsLen, lineMark};
+ghost use Rattle.unit.specs.Layout.{wall, jobsLen, lineMark};
 ghost use Rattle.judges.specs.Marks.{allDone};
 
 // Whether mark k is set. There is one for each job.

@@ -20,7 +20,7 @@ use unit::store_ok;
 use unit::work_ok;
 ghost use mathlib.Core.Path.{_≡_};
 ghost use Rattle.unit.specs.UnitState.{ofState};
-ghost use Rattle.unit.specs.Model.{wall};
+ghost use Rattle.unit.specs.Layout.{wall};
 ghost use Rattle.judges.specs.Turns.{judgedOpenApply, judgedOpenTail, judgedRead, judgedMix, judgedLine, judgedOutput, judgedClose, judgedAbandon};
 
 // A frame of input to be opened (R2.24).

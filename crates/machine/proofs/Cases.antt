@@ -7,7 +7,7 @@ use lib.ListN.{length}
 use Rattle.samples.specs.declared.Answer.the-variants.{Accepted, NotFinite}
 use Rattle.samples.specs.Answers.{accepted}
 use Rattle.samples.proofs.Laws.{accept-either}
-use Rattle.unit.specs.Model.{Model}
+use Rattle.unit.specs.Layout.{Model}
 use Rattle.judges.specs.Turns.{judgedClose}
 use Rattle.stages.specs.Settle.{frameFinite}
 use Rattle.rows.specs.Rows.{rowsOf}

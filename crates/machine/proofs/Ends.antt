@@ -14,7 +14,7 @@ use Rattle.audio_buffer.specs.declared.AudioEffectState.the-variants.{TailCompl
 use Rattle.audio_buffer.specs.Verdict.{verdictOf}
 use Rattle.unit.specs.declared.Outcome.{Outcome}
 use Rattle.unit.specs.Outcome.{outcome}
-use Rattle.unit.specs.Model.{Model}
+use Rattle.unit.specs.Layout.{Model}
 use Rattle.stages.specs.Frame.{Frame, newFilters}
 use Rattle.unit.specs.Room.{unitRings}
 use Rattle.stages.specs.Settle.{frameFinite, settled}

@@ -2,7 +2,7 @@
 use mathlib.Core.List.{List}
 use lib.Ieee.{Float}
 use Rattle.samples.specs.declared.Answer.{Answer}
-use Rattle.unit.specs.Model.{Model}
+use Rattle.unit.specs.Layout.{Model}
 use Rattle.machine.specs.Ending.{Memory, Ending}
 use Rattle.machine.specs.Whole.{Play, silenced, atOnce}
 use Rattle.machine.specs.Jobs.{Job, opened, done, closed, abandoned}

@@ -16,12 +16,10 @@ use Rattle.delay.specs.Ring.{read}
 use Rattle.hadamard.specs.Rows.{mixedRows}
 use Rattle.iir.specs.declared.Filter.{Filter}
 use Rattle.unit.specs.UnitState.{UnitState}
-use Rattle.unit.specs.Model.{Model}
-use Rattle.unit.specs.Layout.{lengths, jobsLen, mixMark, lineMark, outputMark}
+use Rattle.unit.specs.Layout.{Model, lengths, stretch, allpassIn, jobsLen, mixMark, lineMark, outputMark}
 use Rattle.unit.specs.Room.{unitRings}
 use Rattle.unit.specs.Fresh.{noFrame}
 use Rattle.judges.specs.Turns.{judgedOpenApply, judgedOpenTail, judgedRead, judgedMix, judgedLine, judgedOutput, judgedClose, judgedAbandon}
-use Rattle.stages.specs.Frame.{stretch, allpassIn}
 use Rattle.stages.specs.Settle.{settled, moved}
 use Rattle.rows.specs.Rows.{Rows, rowsOf, laid}
 use Rattle.rows.specs.Parts.{lineLaid, lineEnds}

@@ -6,7 +6,7 @@ use lib.Dec.{leb}
 use lib.Ieee.{Float}
 use Rattle.samples.specs.declared.Answer.{Answer}
 use Rattle.samples.specs.Answers.{numberOf}
-use Rattle.unit.specs.Model.{Model}
+use Rattle.unit.specs.Layout.{Model}
 use Rattle.machine.specs.Ending.{Memory}
 use Rattle.machine.specs.Whole.{begun}
 use Rattle.machine.specs.Calls.{Call, answer, after}

@@ -1,7 +1,7 @@
 -- A unit with its own store through any list of calls with any arguments.
 use Prim.Native.Nat.{ℕ}
 use mathlib.Core.List.{List, [], _∷_}
-use Rattle.unit.specs.Model.{Model}
+use Rattle.unit.specs.Layout.{Model}
 use Rattle.machine.specs.Ending.{Memory}
 use Rattle.machine.specs.Whole.{begun}
 use Rattle.machine.specs.Requests.{Request, request}

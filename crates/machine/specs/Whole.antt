@@ -14,8 +14,7 @@ use Rattle.iir.specs.declared.Filter.{Filter}
 use Rattle.bands.specs.declared.Times.{Times}
 use Rattle.bands.specs.Tail.{tailCount, fallen}
 use Rattle.unit.specs.UnitState.{UnitState}
-use Rattle.unit.specs.Model.{Model}
-use Rattle.unit.specs.Layout.{filtersLen}
+use Rattle.unit.specs.Layout.{Model, filtersLen}
 use Rattle.unit.specs.Room.{unitRings}
 use Rattle.unit.specs.Fresh.{freshUnit, leastUnit}
 use Rattle.judges.specs.Judges.{judgedFresh, judgedReset, judgedApply, judgedTail}

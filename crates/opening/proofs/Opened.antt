@@ -14,8 +14,7 @@ use Rattle.samples.specs.Sizes.{rateOk, frameOk}
 use Rattle.samples.proofs.Laws.{split-and, join-and}
 use Rattle.samples.proofs.Turns.{middle}
 use Rattle.unit.specs.UnitState.{UnitState}
-use Rattle.unit.specs.Model.{wall}
-use Rattle.unit.specs.Layout.{lengths, total, storeLen}
+use Rattle.unit.specs.Layout.{wall, lengths, total, allpassIn, storeLen, placesOf}
 use Rattle.judges.specs.Judges.{storeOk, workOk}
 use Rattle.stages.specs.Steps.{copied}
 use Rattle.stages.proofs.RowLaws.{copied-all}
@@ -24,7 +23,6 @@ use Rattle.rows.specs.Rows.{joinedRows}
 use Rattle.frame.proofs.RowJoins.{copy-join}
 use Rattle.rows.proofs.RowsOf.{work-fits}
 use Rattle.judges.proofs.Fits.{Due}
-use Rattle.stages.specs.Frame.{allpassIn}
 use Rattle.machine.specs.Jobs.{openLaid}
 
 -- an accepted open is lent a store and a work memory of its unit's frames
@@ -40,11 +38,11 @@ open-fits u store work d =
 
 -- 34 rows of +0, by their kinds
 rows-of-zeros : (f : ℕ) (rings : List Float)
-    → replicate (34 * f) +0 ++ rings
+    → replicate (placesOf 16 f .rings) +0 ++ rings
     ≡ replicate f +0 ++ (replicate (16 * f) +0 ++ (replicate (16 * f) +0 ++ (replicate f +0 ++ rings)))
 rows-of-zeros f rings =
-    let e : 34 * f ≡ f + (16 * f + (16 * f + f)) = omega arith in
-    let z : replicate (34 * f) +0 ≡ replicate f +0 ++ (replicate (16 * f) +0 ++ (replicate (16 * f) +0 ++ replicate f +0)) =
+    let e : placesOf 16 f .rings ≡ f + (16 * f + (16 * f + f)) = omega arith in
+    let z : replicate (placesOf 16 f .rings) +0 ≡ replicate f +0 ++ (replicate (16 * f) +0 ++ (replicate (16 * f) +0 ++ replicate f +0)) =
     ap (λ (n : ℕ). replicate n +0) e
     ∙ sym (replicate-append-replicate f (16 * f + (16 * f + f)) +0)
     ∙ ap (λ (l : List Float). replicate f +0 ++ l)
@@ -62,26 +60,23 @@ unfolding storeLen
 lines-before u store e = sym e
 
 -- the rings copied to the end of a work memory that is all +0
-pub begin-laid : (u : UnitState) (store w x : List Float) (n : ℕ) → WorkFits wall (u .settings .frame) n → length store ≡ storeLen wall (lengths wall u) → w ≡ replicate n +0
+pub begin-laid : (u : UnitState) (store w x : List Float) (n b : ℕ) → b ≡ placesOf 16 (u .settings .frame) .rings → WorkFits wall (u .settings .frame) n → length store ≡ storeLen wall (lengths wall u) → w ≡ replicate n +0
     → let f = u .settings .frame in
-    let b = 34 * f in
     let a = length store - (length w - b) in
     x ≡ copied (take (length store - a) (drop a store)) (take (length w - b) (drop b w))
     → putMid b (length w - b) w x ≡ openLaid wall f (replicate f +0) (allpassIn (lengths wall u) store)
 unfolding openLaid joinedRows
-begin-laid u store w x n h e z ex =
+begin-laid u store w x n b eb h e z ex =
     let f = u .settings .frame in
     let t = total (lengths wall u) in
     let rings = total (wall .passLengths) in
     let parts = lines-before u (length store) e in
     let long : length w ≡ n = ap length z ∙ length-replicate n +0 in
-    let sum : n ≡ 34 * f + rings = omega (arith, h .work-is) in
-    let all : w ≡ replicate (34 * f) +0 ++ replicate rings +0 =
-    z ∙ ap (λ (k : ℕ). replicate k +0) sum ∙ sym (replicate-append-replicate (34 * f) rings +0) in
-    let front : take (34 * f) w ≡ replicate (34 * f) +0 =
-    ap (take (34 * f)) all ∙ take-at (replicate (34 * f) +0) (replicate rings +0) (34 * f) (length-replicate (34 * f) +0) in
-    copy-join t (34 * f) store w x (omega (arith, parts)) (omega (arith, parts, long, h .work-is)) ex
-    ∙ ap (λ (l : List Float). l ++ drop t store) front
+    let sum : n ≡ b + rings = omega (arith, h .work-is) in
+    let all : w ≡ replicate b +0 ++ replicate rings +0 = z ∙ ap (λ (k : ℕ). replicate k +0) sum ∙ sym (replicate-append-replicate b rings +0) in
+    let front : take b w ≡ replicate b +0 = ap (take b) all ∙ take-at (replicate b +0) (replicate rings +0) b (length-replicate b +0) in
+    copy-join t b store w x (omega (arith, parts)) (omega (arith, parts, long, h .work-is)) ex
+    ∙ ap (λ (l : List Float). l ++ drop t store) (front ∙ ap (λ (k : ℕ). replicate k +0) eb)
     ∙ rows-of-zeros f (drop t store)
 
 -- the input copied to its front

@@ -4,9 +4,7 @@ use lib.Ieee.{Float}
 use lib.ListN.{replicate}
 use Rattle.samples.specs.Binary32.{+0}
 use Rattle.unit.specs.UnitState.{UnitState}
-use Rattle.unit.specs.Model.{wall}
-use Rattle.unit.specs.Layout.{lengths}
-use Rattle.stages.specs.Frame.{allpassIn}
+use Rattle.unit.specs.Layout.{wall, lengths, allpassIn}
 use Rattle.machine.specs.Jobs.{openLaid}
 
 -- R5.8: all but the input, the allpass rings as they are in the store, and else +0

@@ -4,13 +4,13 @@ use samples::Frames;
 use samples::clear;
 use unit::FILTERS;
 use unit::JOBS;
-use unit::ROWS;
+use unit::LINES;
 use unit::State;
+use unit::work_places;
 ghost use mathlib.Core.Path.{_≡_};
 ghost use lib.ListN.{length};
 ghost use Rattle.unit.specs.UnitState.{ofState, toState};
-ghost use Rattle.unit.specs.Model.{wall};
-ghost use Rattle.unit.specs.Layout.{lengths, storeLen};
+ghost use Rattle.unit.specs.Layout.{wall, lengths, storeLen};
 ghost use Rattle.rows.specs.Workers.{WorkFits};
 ghost use Rattle.machine.specs.Jobs.{unitOpen};
 ghost use Rattle.opening.specs.Workers.{silentLaid};
@@ -38,7 +38,8 @@ pub(crate) fn begin_work(s: State, store: &[f32], work: &mut [f32])
 {
     let f = s.frame;
     clear(work);
-    let b = ROWS * f;
-    let a = store.len() - (work.len() - b);
-    stages::copy(&store[a..], &mut work[b..]);
+    let p = work_places(LINES, f);
+    let rings = p.rings;
+    let a = store.len() - (work.len() - rings);
+    stages::copy(&store[a..], &mut work[rings..]);
 }

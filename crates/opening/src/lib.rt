@@ -16,7 +16,7 @@ use unit::Outcome;
 use unit::State;
 use unit::quiet;
 ghost use mathlib.Core.Path.{_≡_};
-ghost use Rattle.unit.specs.Model.{wall};
+ghost use Rattle.unit.specs.Layout.{wall};
 ghost use Rattle.machine.specs.Ending.{lend, outcomeOf};
 ghost use Rattle.machine.specs.Whole as Play;
 ghost use Rattle.machine.specs.Jobs.{opened};

@@ -13,11 +13,11 @@ use Rattle.samples.proofs.Turns.{middle}
 use Rattle.samples.proofs.Lists.{cut, part-long, last-part, first-of}
 use Rattle.delay.specs.Calls.{both}
 use Rattle.unit.specs.declared.AllpassRings.{AllpassRings}
-use Rattle.unit.specs.Layout.{total}
+use Rattle.unit.specs.Layout.{total, stretch}
 use Rattle.iir.specs.declared.Filter.{Filter}
 use Rattle.iir.specs.Runs.{bandsOut, bandsEnd}
 use Rattle.stages.specs.Lines.{three, threeOf, sumRows}
-use Rattle.stages.specs.Frame.{stretch, stageAt, outputRow}
+use Rattle.stages.specs.Frame.{stageAt, outputRow}
 use Rattle.allpass.specs.Passes.{Stage, passOut, passEnd}
 use Rattle.allpass.specs.Stages.{staged}
 use Rattle.stages.specs.Steps.{divided}
@@ -27,14 +27,13 @@ use Rattle.unit.proofs.Totals.{total-next, total-front}
 
 -- ---- the sum of the rows read, after all rows, divided
 
-pub mean-join : (n f : ℕ) (d : Float) (rows w x : List Float) → length rows ≡ n * f + n * f + f
-    → let at = n * f + n * f in
-    let sum = sumRows f n (replicate f +0) (take (n * f) rows) in
-    w ≡ take at rows ++ sum → x ≡ divided d (take (length w - at) (drop at w)) → putMid at (length w - at) w x ≡ take at rows ++ divided d sum
-mean-join n f d rows w x l ew ex =
-    let at = n * f + n * f in
-    let q = last-part at (take at rows) (sumRows f n (replicate f +0) (take (n * f) rows)) w ew (length-take-le at rows (omega arith)) in
-    q .1 x ∙ rw (ex, q .0) refl
+pub mean-join : (n f at : ℕ) (d : Float) (rows w x : List Float) → length rows ≡ n * f + n * f + f → at ≡ n * f + n * f
+    → let sum = sumRows f n (replicate f +0) (take (n * f) rows) in
+    w ≡ take (n * f + n * f) rows ++ sum → x ≡ divided d (take (length w - at) (drop at w))
+    → putMid at (length w - at) w x ≡ take (n * f + n * f) rows ++ divided d sum
+mean-join n f at d rows w x l e ew ex =
+    let q = last-part at (take at rows) (sumRows f n (replicate f +0) (take (n * f) rows)) w (rw e ew) (length-take-le at rows (omega arith)) in
+    q .1 x ∙ rw (ex, q .0, e) refl
 
 -- ---- the allpass rings: four stretches, of the lengths ps
 
@@ -91,37 +90,44 @@ passes-join f v w w₁ w₂ fours four l e₁ e₂ =
 
 -- ---- n rows read, n mixed, the output and the rings: the mean, both stages, and the tone's filters
 
-pub output-join : (n f : ℕ) (d : Float) (v : AllpassRings) (fs gs : List Filter) (w x x₂ x₃ : List Float)
-    → f % 4 ≡ 0 → length w ≡ n * f + n * f + f + total (v .lengths)
-    → let at = n * f + n * f in
-    let k = 3 * n in
-    let q = take (at + f - 0) (drop 0 w) in
-    let w₁ = putMid 0 (at + f - 0) w x in
+-- what comes of it where the output begins at `at` and ends at e
+abbrev OutputJoin : ℕ → ℕ → Float → AllpassRings → List Filter → List Float → ℕ → ℕ → Type 0
+OutputJoin n f d v fs w at e =
+    (gs : List Filter) (x x₂ x₃ : List Float)
+    → let k = 3 * n in
+    let q = take (e - 0) (drop 0 w) in
+    let w₁ = putMid 0 (e - 0) w x in
     let p = take (length w₁ - at) (drop at w₁) in
     let w₂ = putMid at (length w₁ - at) w₁ x₂ in
-    let row = take (at + f - at) (drop at w₂) in
-    let r = outputRow n f d (v .lengths) (v .cursors) fs (drop (at + f) w) (take (n * f) w) in
-    length x ≡ length q → x ≡ take at q ++ divided d (sumRows f n (replicate f +0) (take (n * f) q))
+    let row = take (e - at) (drop at w₂) in
+    let r = outputRow n f d (v .lengths) (v .cursors) fs (drop (n * f + n * f + f) w) (take (n * f) w) in
+    length x ≡ length q → x ≡ take (n * f + n * f) q ++ divided d (sumRows f n (replicate f +0) (take (n * f) q))
     → x₂ ≡ bothPassed f v (drop f p) (take f p)
     → (gs ≡ over k (threeOf (bandsEnd (three k fs) row)) fs) × (x₃ ≡ bandsOut (three k fs) row)
-    → (gs ≡ over k (r .filters) fs) × (putMid at (at + f - at) w₂ x₃ ≡ take at w ++ (r .out ++ r .rings))
-unfolding outputRow bandsOut
-output-join n f d v fs gs w x x₂ x₃ fours l kept ex e₂ e₃ =
-    let ps = v .lengths in
-    let qs = v .cursors in
-    let m = n * f in
-    let at = m + m in
-    let front : List Float = take at w in
-    let rings : List Float = drop (at + f) w in
-    let mean : List Float = divided d (sumRows f n (replicate f +0) (take m w)) in
-    let r = outputRow n f d ps qs fs rings (take m w) in
-    let q = first-of (at + f) w (omega arith) in
-    let lf : length front ≡ at = length-take-le at w (omega arith) in
-    let ex′ : x ≡ front ++ mean = ex ∙ rw (q .0, take-take at (at + f) w (omega arith), take-take m (at + f) w (omega arith)) refl in
-    let lx : length x ≡ at + f = kept ∙ ap length (q .0) ∙ length-take-le (at + f) w (omega arith) in
-    let lm : length mean ≡ f = omega (arith, ap length ex′ ∙ length-append front mean) in
-    let p = last-part at front (mean ++ rings) _ (q .1 x ∙ rw (ex′, append-assoc) refl) lf in
-    let e₂′ : x₂ ≡ r .pass1 ++ r .rings = e₂ ∙ rw (p .0, take-at mean rings f lm, drop-at mean rings f lm) refl in
-    let lo : length (r .pass1) ≡ at + f - at = omega (arith, length-passOut (f / 4) (stageAt ps qs rings 2) (r .pass0)) in
-    let row = middle at (at + f) front (r .pass1) (r .rings) _ (p .1 x₂ ∙ rw e₂′ refl) lf lo in
-    (e₃ .0 ∙ rw (row .0) refl, row .1 x₃ ∙ rw (e₃ .1, row .0) refl)
+    → (gs ≡ over k (r .filters) fs) × (putMid at (e - at) w₂ x₃ ≡ take (n * f + n * f) w ++ (r .out ++ r .rings))
+
+module _ (n f : ℕ) (d : Float) (v : AllpassRings) (fs : List Filter) (w : List Float) (fours : f % 4 ≡ 0) (l : length w ≡ n * f + n * f + f + total (v .lengths)) where
+  joined : OutputJoin n f d v fs w (n * f + n * f) (n * f + n * f + f)
+  unfolding outputRow bandsOut
+  joined gs x x₂ x₃ kept ex e₂ e₃ =
+      let ps = v .lengths in
+      let qs = v .cursors in
+      let m = n * f in
+      let at = m + m in
+      let front : List Float = take at w in
+      let rings : List Float = drop (at + f) w in
+      let mean : List Float = divided d (sumRows f n (replicate f +0) (take m w)) in
+      let r = outputRow n f d ps qs fs rings (take m w) in
+      let q = first-of (at + f) w (omega arith) in
+      let lf : length front ≡ at = length-take-le at w (omega arith) in
+      let ex′ : x ≡ front ++ mean = ex ∙ rw (q .0, take-take at (at + f) w (omega arith), take-take m (at + f) w (omega arith)) refl in
+      let lx : length x ≡ at + f = kept ∙ ap length (q .0) ∙ length-take-le (at + f) w (omega arith) in
+      let lm : length mean ≡ f = omega (arith, ap length ex′ ∙ length-append front mean) in
+      let p = last-part at front (mean ++ rings) _ (q .1 x ∙ rw (ex′, append-assoc) refl) lf in
+      let e₂′ : x₂ ≡ r .pass1 ++ r .rings = e₂ ∙ rw (p .0, take-at mean rings f lm, drop-at mean rings f lm) refl in
+      let lo : length (r .pass1) ≡ at + f - at = omega (arith, length-passOut (f / 4) (stageAt ps qs rings 2) (r .pass0)) in
+      let row = middle at (at + f) front (r .pass1) (r .rings) _ (p .1 x₂ ∙ rw e₂′ refl) lf lo in
+      (e₃ .0 ∙ rw (row .0) refl, row .1 x₃ ∙ rw (e₃ .1, row .0) refl)
+
+  pub output-join : {at e : ℕ} → at ≡ n * f + n * f → e ≡ n * f + n * f + f → OutputJoin n f d v fs w at e
+  output-join ea ee = rw (ea, ee) joined

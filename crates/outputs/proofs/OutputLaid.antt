@@ -12,7 +12,7 @@ use Rattle.samples.specs.Lists.{over}
 use Rattle.samples.proofs.Lists.{to-end}
 use Rattle.delay.specs.declared.Cursors.{Cursors}
 use Rattle.iir.specs.declared.Filter.{Filter}
-use Rattle.unit.specs.Model.{wall}
+use Rattle.unit.specs.Layout.{wall}
 use Rattle.stages.specs.Frame.{outputRow}
 use Rattle.rows.specs.Workers.{WorkFits}
 use Rattle.rows.specs.Rows.{rowsOf, joinedRows}

@@ -6,7 +6,7 @@ use lib.Ieee.{Float}
 use Rattle.samples.specs.Lists.{over}
 use Rattle.delay.specs.declared.Cursors.{Cursors}
 use Rattle.iir.specs.declared.Filter.{Filter}
-use Rattle.unit.specs.Model.{Model}
+use Rattle.unit.specs.Layout.{Model}
 use Rattle.stages.specs.Frame.{OutputRow, outputRow}
 use Rattle.rows.specs.Rows.{Rows, rowsOf, laid}
 

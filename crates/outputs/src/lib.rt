@@ -20,7 +20,7 @@ use unit::Rings;
 ghost use mathlib.Core.Path.{_≡_};
 ghost use mathlib.Core.Bool.{true};
 ghost use lib.ListN.{length};
-ghost use Rattle.unit.specs.Model.{wall};
+ghost use Rattle.unit.specs.Layout.{wall};
 ghost use Rattle.rows.specs.Fits.{workFor};
 ghost use Rattle.rows.specs.Workers.{WorkFits};
 ghost use Rattle.outputs.specs.Steps.{outputMade, outputAfter};

@@ -5,14 +5,14 @@ use rows::three_at;
 use unit::AllpassRings;
 use unit::BANDS;
 use unit::FILTERS;
+use unit::work_places;
 ghost use mathlib.Core.Path.{_≡_};
 ghost use mathlib.Core.List.{_++_};
 ghost use Prim.Native.Nat.{_+_, _*_, _%_, _≤_};
 ghost use lib.ListN.{length, take, drop};
 ghost use Rattle.samples.specs.Lists.{over};
 ghost use Rattle.delay.specs.Calls.{longestRing};
-ghost use Rattle.unit.specs.Model.{wall};
-ghost use Rattle.unit.specs.Layout.{total};
+ghost use Rattle.unit.specs.Layout.{wall, total};
 ghost use Rattle.outputs.specs.Steps.{outputFrom};
 ghost use Rattle.outputs.specs.Workers.{bothPassed};
 
@@ -50,9 +50,9 @@ pub(crate) fn output_in(
     ensures { λ r. ⌜ r ≡ over (3 * n) (outputFrom n f divisor passes fs (now (rows .entry)) .filters) fs ⌝ }
     ensures { λ _. ⌜ now (rows .exit) ≡ take (n * f + n * f) (now (rows .entry)) ++ (outputFrom n f divisor passes fs (now (rows .entry)) .out ++ outputFrom n f divisor passes fs (now (rows .entry)) .rings) ⌝ }
 {
-    let m = n * f;
-    let at = m + m;
-    let e = at + f;
+    let p = work_places(n, f);
+    let at = p.output - p.reads;
+    let e = p.rings - p.reads;
     sum_row(n, f, divisor, &mut rows[0..e]);
     pass_both(f, passes, &mut rows[at..]);
     three_at(BANDS * n, fs, &mut rows[at..e])

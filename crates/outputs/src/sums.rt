@@ -11,8 +11,7 @@ pub(crate) fn sum_lines(n: usize, f: usize, rows: &mut [f32])
     requires { ⌜ length (now rows) ≡ n * f + n * f + f ⌝ }
     ensures { λ _. ⌜ now (rows .exit) ≡ take (n * f + n * f) (now (rows .entry)) ++ sumRows f n (replicate f +0) (take (n * f) (now (rows .entry))) ⌝ }
 {
-    let m = n * f;
-    let at = m + m;
+    let at = rows.len() - f;
     samples::clear(&mut rows[at..]);
     let mut b = 0usize;
     for _ in 0..n {
@@ -26,8 +25,7 @@ pub(crate) fn sum_row(n: usize, f: usize, divisor: f32, rows: &mut [f32])
     requires { ⌜ length (now rows) ≡ n * f + n * f + f ⌝ }
     ensures { λ _. ⌜ now (rows .exit) ≡ take (n * f + n * f) (now (rows .entry)) ++ map (λ x. x ⊘ divisor) (sumRows f n (replicate f +0) (take (n * f) (now (rows .entry)))) ⌝ }
 {
-    let m = n * f;
-    let at = m + m;
+    let at = rows.len() - f;
     sum_lines(n, f, rows);
     stages::divide(&mut rows[at..], divisor);
 }

@@ -18,7 +18,7 @@ use Rattle.unit.specs.declared.State.{State}
 use Rattle.unit.specs.declared.Rings.{Rings}
 use Rattle.unit.specs.declared.Outcome.{Outcome}
 use Rattle.unit.specs.UnitState.{ofState}
-use Rattle.unit.specs.Model.{wall}
+use Rattle.unit.specs.Layout.{wall}
 use Rattle.unit.specs.Room.{unitRings, roomOk}
 use Rattle.unit.specs.Fresh.{blank}
 use Rattle.stages.specs.Lines.{filtersOf}

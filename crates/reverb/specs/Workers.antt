@@ -11,7 +11,7 @@ use Rattle.iir.specs.declared.Filter.{Filter}
 use Rattle.unit.specs.declared.State.{State}
 use Rattle.unit.specs.declared.Outcome.{Outcome}
 use Rattle.unit.specs.UnitState.{UnitState, ofState}
-use Rattle.unit.specs.Model.{wall}
+use Rattle.unit.specs.Layout.{wall}
 use Rattle.unit.specs.Room.{unitRings}
 use Rattle.unit.specs.Outcome.{outcome}
 use Rattle.stages.specs.Frame.{frameIn}

@@ -7,8 +7,7 @@ ghost use mathlib.Core.Path.{_≡_};
 ghost use mathlib.Core.Bool.{cond};
 ghost use lib.Dec.{eqb};
 ghost use lib.ListN.{length, replicate};
-ghost use Rattle.unit.specs.Model.{wall};
-ghost use Rattle.unit.specs.Layout.{filtersLen, coefficientsLen};
+ghost use Rattle.unit.specs.Layout.{wall, filtersLen, coefficientsLen};
 ghost use Rattle.unit.specs.Fresh.{blank};
 ghost use Rattle.stages.specs.Lines.{filtersOf};
 

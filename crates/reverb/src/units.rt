@@ -14,7 +14,7 @@ ghost use mathlib.Core.Path.{_≡_};
 ghost use mathlib.Core.Bool.{true};
 ghost use lib.ListN.{length};
 ghost use Rattle.unit.specs.UnitState.{ofState, toState};
-ghost use Rattle.unit.specs.Model.{wall};
+ghost use Rattle.unit.specs.Layout.{wall};
 ghost use Rattle.unit.specs.Room.{unitRings, roomOk};
 ghost use Rattle.machine.specs.Ending.{outcomeOf};
 ghost use Rattle.reverb.specs.Workers.{unitStepped, playedBy, playing};

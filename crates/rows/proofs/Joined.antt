@@ -6,8 +6,7 @@ use native.Mathlib.Nat.{add-mul}
 use native.Mathlib.Omega.{arith}
 use lib.ListN.{length, take, drop, length-append}
 use lib.Seq.{take-at, drop-at, drop-drop}
-use Rattle.unit.specs.Model.{Model}
-use Rattle.unit.specs.Layout.{total, workLen}
+use Rattle.unit.specs.Layout.{Model, total, workLen}
 use Rattle.rows.specs.Rows.{Rows, rowsOf, joinedRows}
 
 -- rows of n lines and a frame of f as long as they are to be

@@ -15,7 +15,7 @@ use Rattle.samples.proofs.Rows.{row-ends, row-lies, row-set}
 use Rattle.iir.specs.declared.Filter.{Filter}
 use Rattle.iir.specs.Runs.{bandsOut, bandsEnd}
 use Rattle.iir.proofs.Laws.{bands-length}
-use Rattle.unit.specs.Model.{wall}
+use Rattle.unit.specs.Layout.{wall}
 use Rattle.stages.specs.Lines.{three, threeOf, plus}
 use Rattle.stages.specs.Steps.{addedFirst}
 use Rattle.stages.proofs.RowLaws.{length-plus}
@@ -47,12 +47,10 @@ module _ (f i : ℕ) (w : List Float) (h : i < 16) (fits : WorkFits wall f (leng
         ∙ ap (λ (l : List Float). take f w ++ (setRow f i r reads ++ l)) (from-mixed 16 f w)
 
     -- row i of those mixed
-    pub mixed-set : over (17 * f + i * f) r w ≡ laid (take f w) reads (setRow f i r mixed) (take f (drop (f + k + k) w)) (drop (f + k + k + f) w)
+    pub mixed-set : over (f + k + i * f) r w ≡ laid (take f w) reads (setRow f i r mixed) (take f (drop (f + k + k) w)) (drop (f + k + k + f) w)
     unfolding joinedRows
     mixed-set =
-        let at : 17 * f + i * f ≡ f + k + i * f = omega arith in
-        ap (λ (j : ℕ). over j r w) at
-        ∙ row-set f (f + k) 16 i w h r e (omega (arith, fits .work-is))
+        row-set f (f + k) 16 i w h r e (omega (arith, fits .work-is))
         ∙ (λ x. take-add f k w x ++ (setRow f i r mixed ++ cut (f + k + k) w f x))
         ∙ append-assoc (take f w) reads (setRow f i r mixed ++ (take f (drop (f + k + k) w) ++ drop (f + k + k + f) w))
 
@@ -60,13 +58,11 @@ module _ (f i : ℕ) (w : List Float) (h : i < 16) (fits : WorkFits wall f (leng
   pub read-at : take f (drop (f + i * f) w) ≡ row f i reads
   read-at = row-lies f f 16 i w h
 
-  pub mixed-at : take f (drop (17 * f + i * f) w) ≡ row f i mixed
-  mixed-at =
-      let at : 17 * f + i * f ≡ f + k + i * f = omega arith in
-      ap (λ (j : ℕ). take f (drop j w)) at ∙ row-lies f (f + k) 16 i w h
+  pub mixed-at : take f (drop (f + k + i * f) w) ≡ row f i mixed
+  mixed-at = row-lies f (f + k) 16 i w h
 
   abbrev b : ℕ
-  b = 17 * f + i * f
+  b = f + k + i * f
 
   room : b + f ≤ length w
   room = omega (arith, row-ends i 16 f h, fits .work-is)

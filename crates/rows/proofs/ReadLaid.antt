@@ -9,7 +9,7 @@ use lib.ListN.{length, getD, take, drop}
 use lib.Dec.{ltb, eqb}
 use borrow.Author.Tests.{ltb-true, eqb-true}
 use borrow.Rule.Slice.PartMut.{putMid}
-use Rattle.samples.specs.Lists.{row}
+use Rattle.samples.specs.Lists.{over, row}
 use Rattle.samples.proofs.Laws.{split-and}
 use Rattle.samples.proofs.Turns.{lent}
 use Rattle.samples.proofs.Lists.{part-long, lent-long, come-back}
@@ -19,11 +19,9 @@ use Rattle.delay.specs.Calls.{both, getOut}
 use Rattle.delay.specs.Ring.{read}
 use Rattle.delay.proofs.Laws.{Moves, get-ok}
 use Rattle.unit.specs.declared.Rings.{Rings}
-use Rattle.unit.specs.Model.{wall}
-use Rattle.unit.specs.Layout.{total, storeLen}
+use Rattle.unit.specs.Layout.{wall, total, stretch, storeLen}
 use Rattle.unit.specs.Range.{cursorsIn}
 use Rattle.unit.specs.Room.{ringsHold}
-use Rattle.stages.specs.Frame.{stretch}
 use Rattle.rows.specs.Fits.{workFor}
 use Rattle.rows.specs.Workers.{WorkFits}
 use Rattle.rows.specs.Rows.{rowsOf}
@@ -71,18 +69,16 @@ module _ (f : ℕ) (v : Rings) (i : ℕ) (store w : List Float) (h : i < 16) (al
   pub row-within : f + i * f + f ≤ length w
   row-within = omega (arith, row-ends i 16 f h, fits .work-is)
 
-  pub read-laid : (a : ℕ) (x : List Float) → a ≡ start
-      → let b = f + i * f in
-      length x ≡ length (take (b + f - b) (drop b w))
+  pub read-laid : (a b : ℕ) (x : List Float) → a ≡ start → b ≡ f + i * f
+      → length x ≡ length (take (b + f - b) (drop b w))
       → x ≡ getOut (take (a + l - a) (drop a store)) c (take (b + f - b) (drop b w))
       → putMid b (b + f - b) w x ≡ readLaid wall f v i true store w
   unfolding readLaid rowsOf stretch
-  read-laid a x ea kept ex =
-      let b = f + i * f in
-      let whole : length x ≡ f = kept ∙ lent-long b w f row-within in
+  read-laid a b x ea eb kept ex =
+      let whole : length x ≡ f = kept ∙ lent-long b w f (omega (arith, eb, row-within)) in
       let ring : take (a + l - a) (drop a store) ≡ stretch ls i store = lent a l store ∙ rw ea refl in
-      let got : x ≡ getOut (stretch ls i store) c (row f i (take (16 * f) (drop f w))) = ex ∙ rw (ring, lent b f w, read-at f i w h fits) refl in
-      come-back b w f x whole ∙ read-set f i w h fits x whole ∙ rw got refl
+      let got : x ≡ getOut (stretch ls i store) c (row f i (take (16 * f) (drop f w))) = ex ∙ rw (ring, lent b f w, eb, read-at f i w h fits) refl in
+      come-back b w f x whole ∙ ap (λ (j : ℕ). over j x w) eb ∙ read-set f i w h fits x whole ∙ rw got refl
 
   -- a ring whose cursors are within it gives the row whole
   pub read-given : cursorsIn ls (v .lines .cursors) ≡ true → readIn f v i store (rowsOf 16 f w) ≡ read (stretch ls i store) (c .read .0) f

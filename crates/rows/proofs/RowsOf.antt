@@ -11,8 +11,7 @@ use borrow.Author.Tests.{eqb-true}
 use Rattle.samples.specs.Sizes.{frameOk}
 use Rattle.samples.proofs.Laws.{split-and, frame-of}
 use Rattle.samples.proofs.Lists.{cut}
-use Rattle.unit.specs.Model.{wall}
-use Rattle.unit.specs.Layout.{total, workLen, ringsPlace}
+use Rattle.unit.specs.Layout.{wall, total, placesOf, workLen}
 use Rattle.rows.specs.Fits.{workFor}
 use Rattle.rows.specs.Workers.{WorkFits}
 
@@ -30,7 +29,7 @@ module _ (n f : ℕ) (w : List Float) where
       sym (take-append-drop f w) ∙ ap (λ (l : List Float). take f w ++ l) (cut f w k ∙ ap (λ (l : List Float). take k (drop f w) ++ l) from-mixed)
 
 -- a work memory of frames of f
-pub work-parts : (f work : ℕ) → work ≡ workLen wall f → work ≡ ringsPlace 16 f + total (wall .passLengths)
+pub work-parts : (f work : ℕ) → work ≡ workLen wall f → work ≡ placesOf 16 f .rings + total (wall .passLengths)
 unfolding workLen
 work-parts f work e = omega arith
 

@@ -5,8 +5,7 @@ use mathlib.Core.List.{List}
 use lib.Dec.{leb, eqb}
 use Rattle.samples.specs.Sizes.{frameOk}
 use Rattle.delay.specs.Calls.{longestRing}
-use Rattle.unit.specs.Model.{Model, wall}
-use Rattle.unit.specs.Layout.{total, workLen, outputPlace}
+use Rattle.unit.specs.Layout.{Model, wall, total, placesOf, workLen}
 
 -- from one line to all of the wall unit's, and rows no longer than a ring may be
 unfoldable pub fewRows : ℕ → ℕ → Bool
@@ -14,7 +13,7 @@ fewRows n f = leb 1 n && (leb n (wall .lines) && leb f longestRing)
 
 -- `len` floats are the input, n rows read and n mixed
 unfoldable pub linesFit : ℕ → ℕ → ℕ → Bool
-linesFit n f len = fewRows n f && eqb len (outputPlace n f)
+linesFit n f len = fewRows n f && eqb len (placesOf n f .output)
 
 -- `len` floats are n rows read, n mixed, the output, and allpass rings of the lengths ps
 unfoldable pub outputFits : ℕ → ℕ → List ℕ → ℕ → Bool

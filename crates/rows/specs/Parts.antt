@@ -6,7 +6,7 @@ use lib.Ieee.{Float}
 use Rattle.samples.specs.Lists.{over, row, setRow}
 use Rattle.iir.specs.declared.Filter.{Filter}
 use Rattle.iir.specs.Runs.{bandsOut, bandsEnd}
-use Rattle.unit.specs.Model.{Model}
+use Rattle.unit.specs.Layout.{Model}
 use Rattle.stages.specs.Lines.{three, threeOf, plus}
 use Rattle.rows.specs.Rows.{Rows, rowsOf, laid}
 

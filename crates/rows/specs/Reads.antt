@@ -8,10 +8,8 @@ use lib.ListN.{getD}
 use Rattle.samples.specs.Lists.{row, setRow}
 use Rattle.delay.specs.Calls.{both, getOut}
 use Rattle.unit.specs.declared.Rings.{Rings}
-use Rattle.unit.specs.Model.{Model}
-use Rattle.unit.specs.Layout.{storeLen}
+use Rattle.unit.specs.Layout.{Model, stretch, storeLen}
 use Rattle.unit.specs.Room.{ringsHold}
-use Rattle.stages.specs.Frame.{stretch}
 use Rattle.rows.specs.Rows.{Rows, rowsOf, laid}
 use Rattle.rows.specs.Fits.{workFor}
 

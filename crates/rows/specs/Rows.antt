@@ -3,7 +3,7 @@ use Prim.Native.Nat.{ℕ, _*_}
 use mathlib.Core.List.{List, _++_}
 use lib.Ieee.{Float}
 use lib.ListN.{take, drop}
-use Rattle.unit.specs.Layout.{mixedPlace, outputPlace, ringsPlace}
+use Rattle.unit.specs.Layout.{placesOf}
 
 -- the work memory: the input, the rows read, the rows mixed, which become those to put (R1.23), the output and the allpass rings
 pub record Rows : Type 0 where
@@ -17,10 +17,10 @@ pub record Rows : Type 0 where
 unfoldable pub rowsOf : ℕ → ℕ → List Float → Rows
 rowsOf n f work = record {
   input = take f work;
-  reads = take (n * f) (drop f work);
-  mixed = take (n * f) (drop (mixedPlace n f) work);
-  output = take f (drop (outputPlace n f) work);
-  rings = drop (ringsPlace n f) work;
+  reads = take (n * f) (drop (placesOf n f .reads) work);
+  mixed = take (n * f) (drop (placesOf n f .mixed) work);
+  output = take f (drop (placesOf n f .output) work);
+  rings = drop (placesOf n f .rings) work;
 }
 
 -- and joined again

@@ -5,8 +5,7 @@ use mathlib.Core.List.{List, [], _∷_, _++_}
 use Rattle.samples.specs.Sizes.{longestFrame}
 use Rattle.iir.specs.declared.Filter.{Filter}
 use Rattle.iir.specs.declared.Bands.{Bands}
-use Rattle.unit.specs.Model.{Model}
-use Rattle.unit.specs.Layout.{total, ringsPlace}
+use Rattle.unit.specs.Layout.{Model, total, placesOf}
 use Rattle.stages.specs.Lines.{three, threeOf}
 
 -- a work memory is one of frames of f samples
@@ -14,7 +13,7 @@ pub record WorkFits (m : Model) (f work : ℕ) : Type 0 where
   pub some : 0 < f
   pub short : f ≤ longestFrame
   pub fours : f % 4 ≡ 0
-  pub work-is : work ≡ ringsPlace (m .lines) f + total (m .passLengths)
+  pub work-is : work ≡ placesOf (m .lines) f .rings + total (m .passLengths)
 
 -- the bands of four lines: the twelve filters from k on, three a line
 abbrev pub fourFrom : ℕ → List Filter → List Bands

@@ -13,8 +13,7 @@ ghost use lib.Dec.{leb};
 ghost use lib.ListN.{length, drop};
 ghost use Rattle.samples.specs.Lists.{over};
 ghost use Rattle.iir.specs.Runs.{bandsOut, bandsEnd};
-ghost use Rattle.unit.specs.Model.{wall};
-ghost use Rattle.unit.specs.Layout.{filtersLen};
+ghost use Rattle.unit.specs.Layout.{wall, filtersLen};
 ghost use Rattle.bank.specs.Lines.{linesOut, linesEnd};
 ghost use Rattle.stages.specs.Lines.{bandRows, bandEnds, three, threeOf};
 ghost use Rattle.rows.specs.Workers.{fourFrom, threesOf};
@@ -66,14 +65,14 @@ fn twelve_at(k: usize, fs: [Filter; FILTERS], rows: &mut [f32]) -> [Filter; FILT
     ensures { λ _. ⌜ now (rows .exit) ≡ linesOut (length (now (rows .entry)) / 4) (fourFrom k fs) (now (rows .entry)) ⌝ }
 {
     let b0 = three_of(k, fs);
-    let b1 = three_of(k + 3, fs);
-    let b2 = three_of(k + 6, fs);
-    let b3 = three_of(k + 9, fs);
+    let b1 = three_of(k + BANDS, fs);
+    let b2 = three_of(k + 2 * BANDS, fs);
+    let b3 = three_of(k + 3 * BANDS, fs);
     let h = bank::four_lines(FourBands { b0, b1, b2, b3 }, rows);
     let g0 = with_three(k, h.b0, fs);
-    let g1 = with_three(k + 3, h.b1, g0);
-    let g2 = with_three(k + 6, h.b2, g1);
-    with_three(k + 9, h.b3, g2)
+    let g1 = with_three(k + BANDS, h.b1, g0);
+    let g2 = with_three(k + 2 * BANDS, h.b2, g1);
+    with_three(k + 3 * BANDS, h.b3, g2)
 }
 
 // Filters n rows, each by its line's three bands, and gives the filters after them. Four lines go side

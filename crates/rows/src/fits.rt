@@ -5,10 +5,10 @@ use samples::frame_ok;
 use unit::LINES;
 use unit::PASS_RINGS;
 use unit::work_ok;
+use unit::work_places;
 ghost use mathlib.Core.Path.{_≡_};
 ghost use lib.Dec.{eqb};
-ghost use Rattle.unit.specs.Model.{wall};
-ghost use Rattle.unit.specs.Layout.{total};
+ghost use Rattle.unit.specs.Layout.{wall, total};
 ghost use Rattle.rows.specs.Fits.{fewRows, linesFit, outputFits, workFor};
 
 // From one line to all of the wall unit's, and rows no longer than a ring may be.
@@ -25,7 +25,8 @@ pub(crate) fn lines_fit(n: usize, f: usize, len: usize) -> bool
     if !few_rows(n, f) {
         return false;
     }
-    len == f + n * f + n * f
+    let p = work_places(n, f);
+    len == p.output
 }
 
 // Whole rows read, mixed and of the output, and the allpass rings (R3.37).
@@ -35,7 +36,8 @@ pub fn output_fits(n: usize, f: usize, ps: [usize; PASS_RINGS], len: usize) -> b
     if !few_rows(n, f) {
         return false;
     }
-    let rows = n * f + n * f + f;
+    let p = work_places(n, f);
+    let rows = p.rings - p.reads;
     if len < rows {
         return false;
     }

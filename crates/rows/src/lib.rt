@@ -21,7 +21,7 @@ use samples::and;
 use unit::BANDS;
 use unit::FILTERS;
 use unit::LINES;
-use unit::MIXED_ROW;
+use unit::work_places;
 ghost use mathlib.Core.Path.{_≡_};
 ghost use mathlib.Core.Bool.{true, _&&_};
 ghost use mathlib.Core.List.{_++_};
@@ -29,8 +29,7 @@ ghost use Prim.Native.Nat.{_*_, _<_, _≤_};
 ghost use lib.Dec.{ltb};
 ghost use lib.ListN.{length, take, drop};
 ghost use Rattle.delay.specs.Calls.{longestRing};
-ghost use Rattle.unit.specs.Model.{wall};
-ghost use Rattle.unit.specs.Layout.{outputPlace};
+ghost use Rattle.unit.specs.Layout.{wall, placesOf};
 ghost use Rattle.rows.specs.Fits.{workFor};
 ghost use Rattle.rows.specs.Workers.{WorkFits};
 ghost use Rattle.rows.specs.Steps.{linesIn, linesLaid, linesEnds};
@@ -64,13 +63,15 @@ fn lines_in(
     fs: [Filter; FILTERS],
     rows: &mut [f32],
 ) -> [Filter; FILTERS]
-    requires { ⌜ (0 < n) × (n ≤ wall .lines) × (f ≤ longestRing) × (length (now rows) ≡ outputPlace n f) ⌝ }
+    requires { ⌜ (0 < n) × (n ≤ wall .lines) × (f ≤ longestRing) × (length (now rows) ≡ placesOf n f .output) ⌝ }
     ensures { λ r. ⌜ r ≡ linesIn n f factor tail fs (now (rows .entry)) .filters ++ drop (3 * n) fs ⌝ }
     ensures { λ _. ⌜ now (rows .exit) ≡ take f (now (rows .entry)) ++ (take (n * f) (drop f (now (rows .entry))) ++ linesIn n f factor tail fs (now (rows .entry)) .put) ⌝ }
 {
-    let at = f + n * f;
-    mixer::mix_rows(n, factor, &mut rows[f..]);
-    let gs = band_lines(n, f, fs, &mut rows[at..]);
+    let p = work_places(n, f);
+    let reads = p.reads;
+    let mixed = p.mixed;
+    mixer::mix_rows(n, factor, &mut rows[reads..]);
+    let gs = band_lines(n, f, fs, &mut rows[mixed..]);
     add_unless(tail, n, f, rows);
     gs
 }
@@ -105,7 +106,8 @@ fn wall_line(
     ensures { λ r. ⌜ r ≡ lineEnds wall f i fs true (now (work .entry)) ⌝ }
     ensures { λ _. ⌜ now (work .exit) ≡ lineLaid wall f i tail fs true (now (work .entry)) ⌝ }
 {
-    let b = MIXED_ROW * f + i * f;
+    let p = work_places(LINES, f);
+    let b = p.mixed + i * f;
     let e = b + f;
     let gs = three_at(BANDS * i, fs, &mut work[b..e]);
     add_input(tail, f, &mut work[0..e]);

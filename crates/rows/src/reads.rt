@@ -5,12 +5,12 @@ use unit::LINES;
 use unit::Rings;
 use unit::is_store;
 use unit::rings_hold;
+use unit::work_places;
 ghost use mathlib.Core.Path.{_≡_};
 ghost use mathlib.Core.Bool.{true};
 ghost use Prim.Native.Nat.{_<_, _≤_};
 ghost use lib.ListN.{length, take};
-ghost use Rattle.unit.specs.Model.{wall};
-ghost use Rattle.unit.specs.Layout.{storeLen, total};
+ghost use Rattle.unit.specs.Layout.{wall, total, storeLen};
 ghost use Rattle.unit.specs.Room.{ringsHold};
 ghost use Rattle.rows.specs.Workers.{WorkFits};
 ghost use Rattle.rows.specs.Reads.{readLaid, lineRoom};
@@ -46,7 +46,8 @@ fn wall_read(i: usize, f: usize, rings: Rings, store: &[f32], work: &mut [f32])
     let c = cs[i];
     let a = line_start(i, ls);
     let e = a + ls[i];
-    let b = f + i * f;
+    let p = work_places(LINES, f);
+    let b = p.reads + i * f;
     let t = b + f;
     delay::get(&store[a..e], c, &mut work[b..t]);
 }

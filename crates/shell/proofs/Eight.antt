@@ -16,7 +16,7 @@ use Rattle.search.specs.Search.{firstBad, allFinite}
 use Rattle.samples.proofs.Turns.{lt-or-ge}
 use Rattle.bands.specs.Times.{timeOk, timesOk}
 use Rattle.unit.specs.UnitState.{UnitState}
-use Rattle.unit.specs.Model.{wall}
+use Rattle.unit.specs.Layout.{wall}
 use Rattle.unit.specs.Room.{lentOk}
 use Rattle.judges.specs.Judges.{judged, givenOk, badInput, judgedGiven}
 use Rattle.shell.specs.Settings.{frame, storeFloats, workFloats, times, lineGains, coefficients}

@@ -9,7 +9,7 @@ use Rattle.samples.specs.Answers.{accept, orElse}
 use Rattle.samples.specs.Binary32.{+0}
 use Rattle.samples.proofs.Laws.{accept-no, accept-either}
 use Rattle.unit.specs.UnitState.{UnitState}
-use Rattle.unit.specs.Model.{wall}
+use Rattle.unit.specs.Layout.{wall}
 use Rattle.stages.specs.Frame.{Frame, newFilters}
 use Rattle.stages.specs.Settle.{frameFinite, nineOf}
 use Rattle.machine.specs.Ending.{Ending}

@@ -9,9 +9,8 @@ use Rattle.samples.proofs.Laws.{accept-yes, accept-no}
 use Rattle.bands.specs.Times.{larger}
 use Rattle.bands.specs.Tail.{ceiling, tailCount}
 use Rattle.unit.specs.UnitState.{Settings, UnitState}
-use Rattle.unit.specs.Model.{wall}
+use Rattle.unit.specs.Layout.{wall, lengthsFrom, total, storeLen, workLen}
 use Rattle.unit.specs.Fresh.{freshUnit}
-use Rattle.unit.specs.Layout.{lengthsFrom, total, storeLen, workLen}
 use Rattle.shell.specs.Settings.{frame, rate, times, calls}
 use Rattle.shell.specs.Frames.{inputPlay}
 use Rattle.shell.specs.Counts.{Input, frameEnds, last, any, SeventySix, Room}

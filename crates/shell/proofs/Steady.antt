@@ -9,9 +9,8 @@ use Rattle.samples.specs.Sizes.{rateOk, frameOk}
 use Rattle.samples.proofs.Laws.{accept-either}
 use Rattle.iir.specs.Nine.{nine}
 use Rattle.unit.specs.UnitState.{UnitState}
-use Rattle.unit.specs.Model.{wall}
+use Rattle.unit.specs.Layout.{wall, lengthsFrom, lengths, total, storeLen, workLen}
 use Rattle.unit.specs.Fresh.{noFrame, freshUnit}
-use Rattle.unit.specs.Layout.{lengthsFrom, lengths, total, storeLen, workLen}
 use Rattle.unit.specs.Range.{below, cursorsIn, unmarked, blankFilters, blankOpen, inRange}
 use Rattle.judges.specs.Judges.{judged}
 use Rattle.stages.specs.Frame.{newFilters}

@@ -6,9 +6,8 @@ use Prim.Native.Nat.{ℕ}
 use lib.Ieee.{Float}
 use Rattle.samples.specs.Answers.{accepted}
 use Rattle.unit.specs.UnitState.{UnitState}
-use Rattle.unit.specs.Model.{wall}
+use Rattle.unit.specs.Layout.{wall, lengths, storeLen, workLen}
 use Rattle.unit.specs.Fresh.{freshUnit}
-use Rattle.unit.specs.Layout.{lengths, storeLen, workLen}
 use Rattle.machine.specs.Ending.{Ending}
 use Rattle.shell.specs.Settings.{frame, rate, storeFloats, workFloats, calls}
 use Rattle.shell.specs.Frames.{inputEnds}

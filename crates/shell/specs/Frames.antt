@@ -8,7 +8,7 @@ use Rattle.samples.specs.Answers.{accept}
 use Rattle.samples.specs.Binary32.{+0}
 use Rattle.wire.specs.Wire.{decoded, encoded}
 use Rattle.unit.specs.UnitState.{UnitState}
-use Rattle.unit.specs.Model.{wall}
+use Rattle.unit.specs.Layout.{wall}
 use Rattle.machine.specs.Ending.{Ending}
 use Rattle.machine.specs.Whole.{Play, apply, tail, wholeDue, atOnce}
 use Rattle.shell.specs.Settings.{frame, storeFloats, workFloats, times, coefficients}

@@ -10,7 +10,7 @@ use Rattle.samples.specs.Answers.{orElse}
 use Rattle.samples.specs.Binary32.{finite}
 use Rattle.search.specs.Search.{firstBad}
 use Rattle.unit.specs.UnitState.{UnitState}
-use Rattle.unit.specs.Model.{wall}
+use Rattle.unit.specs.Layout.{wall}
 use Rattle.unit.specs.Fresh.{freshUnit}
 use Rattle.judges.specs.Judges.{badInput}
 use Rattle.stages.specs.Settle.{nineOf}

@@ -5,7 +5,7 @@ use lib.IntN.{ℤ, pos, negsuc}
 use lib.Ieee.{Float, binary32, ofBits}
 use Rattle.samples.specs.Binary32.{+0}
 use Rattle.bands.specs.declared.Times.{Times}
-use Rattle.unit.specs.Model.{wall}
+use Rattle.unit.specs.Layout.{wall}
 
 -- R9.1: F and the rate
 abbrev pub frame : ℕ

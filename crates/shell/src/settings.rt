@@ -21,7 +21,7 @@ ghost use lib.Ieee.{binary32, ofBits};
 ghost use lib.ListN.{replicate};
 ghost use Rattle.samples.specs.Binary32.{+0};
 ghost use Rattle.samples.specs.declared.Answer.the-variants.{Accepted};
-ghost use Rattle.unit.specs.Model.{wall};
+ghost use Rattle.unit.specs.Layout.{wall};
 ghost use Rattle.unit.specs.Fresh.{freshUnit};
 ghost use Rattle.unit.specs.Outcome.{outcome};
 ghost use Rattle.audio_buffer.specs.declared.AudioEffectState.the-variants.{TailComplete};

@@ -3,7 +3,7 @@ use Prim.Native.Nat.{ℕ, _+_, _*_, _/_}
 use mathlib.Core.Bool.{Bool, cond}
 use mathlib.Core.List.{List, _++_, map}
 use lib.Ieee.{Float}
-use lib.ListN.{getD, take, drop, replicate}
+use lib.ListN.{getD, replicate}
 use Rattle.samples.specs.Binary32.{_⊘_, +0}
 use Rattle.delay.specs.declared.Cursors.{Cursors}
 use Rattle.delay.specs.Calls.{both}
@@ -11,13 +11,9 @@ use Rattle.hadamard.specs.Rows.{mixedRows}
 use Rattle.iir.specs.declared.Filter.{Filter}
 use Rattle.iir.specs.Runs.{runOut, bandsEnd}
 use Rattle.unit.specs.declared.Rings.{Rings}
-use Rattle.unit.specs.Layout.{total}
+use Rattle.unit.specs.Layout.{stretch, allpassIn}
 use Rattle.allpass.specs.Passes.{Stage, passOut, passEnd}
 use Rattle.stages.specs.Lines.{noFilter, readRows, bandRows, bandEnds, addRows, sumRows, three, threeOf}
-
--- R1.20, R1.22: a list cut into stretches of the lengths ls, stretch k
-unfoldable pub stretch : List ℕ → ℕ → List Float → List Float
-stretch ls k xs = take (getD ls k 0) (drop (total (take k ls)) xs)
 
 -- R3.34: the allpass stage whose x ring is stretch k of `rings` and whose y ring is the next one
 abbrev pub stageAt : List ℕ → List Cursors → List Float → ℕ → Stage
@@ -102,10 +98,6 @@ newFilters r = r .lines .filters ++ r .output .filters
 -- R4.5: step 2 of n lines, on the rings r of a store
 abbrev pub readsOf : ℕ → ℕ → Rings → List Float → List Float
 readsOf n f r store = readRows f n 0 (r .lines .lengths) (r .lines .cursors) store
-
--- R1.20: the allpass rings, which lie after lines' rings of the lengths ls
-abbrev pub allpassIn : List ℕ → List Float → List Float
-allpassIn ls store = drop (total ls) store
 
 -- R4.5 to R4.12: a frame of n lines on the rings r of a store, which has no other lines, the mix's factor k and the sum's divisor d
 unfoldable pub frameIn : ℕ → ℕ → Float → Float → Bool → Rings → List Filter → List Float → List Float → Frame

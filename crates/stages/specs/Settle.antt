@@ -18,8 +18,7 @@ use Rattle.iir.specs.declared.Filter.{Filter}
 use Rattle.iir.specs.Nine.{finiteFilter}
 use Rattle.unit.specs.declared.Rings.{Rings}
 use Rattle.unit.specs.UnitState.{RingCursors, UnitState}
-use Rattle.unit.specs.Model.{Model}
-use Rattle.unit.specs.Layout.{lengths}
+use Rattle.unit.specs.Layout.{Model, lengths}
 use Rattle.stages.specs.Frame.{Frame, newFilters}
 
 unfoldable pub filtersFinite : List Filter → Bool

@@ -16,8 +16,7 @@ use Rattle.delay.specs.declared.Cursors.{Cursors}
 use Rattle.delay.specs.Calls.{both}
 use Rattle.primes.proofs.Table.{delay-range}
 use Rattle.unit.specs.UnitState.{Settings, UnitState}
-use Rattle.unit.specs.Model.{Model, wall}
-use Rattle.unit.specs.Layout.{lengthsFrom, lengths, total}
+use Rattle.unit.specs.Layout.{Model, wall, lengthsFrom, lengths, total}
 use Rattle.unit.specs.Range.{below, cursorsIn}
 use Rattle.unit.specs.Room.{ringsHold, passesAre}
 

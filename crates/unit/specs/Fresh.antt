@@ -9,8 +9,7 @@ use Rattle.delay.specs.Calls.{both}
 use Rattle.iir.specs.declared.Filter.{Filter}
 use Rattle.iir.specs.Step.{fromCoefficients}
 use Rattle.unit.specs.UnitState.{Held, UnitState}
-use Rattle.unit.specs.Model.{Model}
-use Rattle.unit.specs.Layout.{filtersLen, jobsLen}
+use Rattle.unit.specs.Layout.{Model, filtersLen, jobsLen}
 
 -- nine times +0
 abbrev pub blank : Filter

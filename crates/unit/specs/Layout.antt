@@ -1,11 +1,33 @@
--- How a unit is laid out: the lengths of its rings, where the mixed rows, the output and the rings begin in the work memory, how much memory it
--- is lent, how many filters and jobs it has, and the marks of the jobs.
+-- How a unit is built and how its memory lies, each number once: what a model is, and the wall unit's; the rings and where they lie in the store;
+-- the rows of the work memory and where they begin; how many filters and jobs it has, and the marks of the jobs.
 use Prim.Native.Nat.{ℕ, zero, suc, _+_, _*_}
 use mathlib.Core.Path.{_≡_}
 use mathlib.Core.List.{List, [], _∷_}
-use lib.ListN.{length}
+use lib.Ieee.{Float, binary32, ofBits}
+use lib.ListN.{length, getD, take, drop}
+use Rattle.primes.specs.Table.{delayAt}
+use Rattle.unit.specs.declared.layout.Places.{Places}
 use Rattle.unit.specs.UnitState.{Settings, UnitState}
-use Rattle.unit.specs.Model.{Model, wall}
+
+-- R1.17: what one model of the unit is built of: how many lines; the delay of each, which its ring exceeds by a frame; the lengths of the allpass
+-- rings x0, y0, x1, y1; the factor of the mix, and what the sum of the lines is divided by. The definitions of the calls, and of what they rest on,
+-- are over any model
+pub record Model : Type 0 where
+  pub lines : ℕ
+  pub delay : ℕ → ℕ
+  pub passLengths : List ℕ
+  pub factor : Float
+  pub divisor : Float
+
+-- R1.8, R1.12, R1.13: the wall unit. 0x3e80_0000 is 0.25 and 0x4180_0000 is 16
+abbrev pub wall : Model
+wall = record {
+  lines = 16;
+  delay = delayAt;
+  passLengths = 225 ∷ 341 ∷ 341 ∷ 441 ∷ [];
+  factor = ofBits binary32 0x3e80_0000;
+  divisor = ofBits binary32 0x4180_0000;
+}
 
 -- R1.10: the lengths of the rings of n lines more, from line i on, of a unit with the settings s
 unfoldable pub lengthsFrom : Model → Settings → ℕ → ℕ → List ℕ
@@ -24,20 +46,27 @@ total (l ∷ ls) = l + total ls
 unfoldable pub storeLen : Model → List ℕ → ℕ
 storeLen m ls = total ls + total (m .passLengths)
 
+-- R1.20: a list cut into stretches of the lengths ls, stretch k. Line k's ring is that of a store
+unfoldable pub stretch : List ℕ → ℕ → List Float → List Float
+stretch ls k xs = take (getD ls k 0) (drop (total (take k ls)) xs)
+
+-- R1.20: the allpass rings, which lie after lines' rings of the lengths ls
+abbrev pub allpassIn : List ℕ → List Float → List Float
+allpassIn ls store = drop (total ls) store
+
 -- R1.22: the work memory of n lines is rows of f floats, one for the input, one a line read, one a line mixed and one for the output, and then
--- the allpass rings. Where the rows mixed, the output and the rings begin
-abbrev pub mixedPlace : ℕ → ℕ → ℕ
-mixedPlace n f = f + n * f
-
-abbrev pub outputPlace : ℕ → ℕ → ℕ
-outputPlace n f = f + n * f + n * f
-
-abbrev pub ringsPlace : ℕ → ℕ → ℕ
-ringsPlace n f = f + n * f + n * f + f
+-- the allpass rings. Where those after the input begin
+abbrev pub placesOf : ℕ → ℕ → Places
+placesOf n f = record {
+  reads = f;
+  mixed = f + n * f;
+  output = f + n * f + n * f;
+  rings = f + n * f + n * f + f;
+}
 
 -- R1.21: its length
 unfoldable pub workLen : Model → ℕ → ℕ
-workLen m f = ringsPlace (m .lines) f + total (m .passLengths)
+workLen m f = placesOf (m .lines) f .rings + total (m .passLengths)
 
 -- R1.19, R1.21: the wall unit's
 abbrev pub StoreIs : Type 0

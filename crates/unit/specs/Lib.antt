@@ -1,5 +1,4 @@
 pub mod UnitState
-pub mod Model
 pub mod Layout
 pub mod Fresh
 pub mod Range

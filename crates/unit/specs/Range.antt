@@ -11,8 +11,7 @@ use Rattle.delay.specs.declared.Cursors.{Cursors}
 use Rattle.iir.specs.declared.Filter.{Filter}
 use Rattle.iir.specs.Nine.{blankFilter}
 use Rattle.unit.specs.UnitState.{UnitState}
-use Rattle.unit.specs.Model.{Model}
-use Rattle.unit.specs.Layout.{lengths}
+use Rattle.unit.specs.Layout.{Model, lengths}
 
 -- R1.29: the cursors of one ring, and of rings of the lengths ls
 unfoldable pub below : ℕ → Cursors → Bool

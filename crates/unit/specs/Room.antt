@@ -9,8 +9,7 @@ use Rattle.samples.specs.Sizes.{frameOk}
 use Rattle.delay.specs.Calls.{longestRing}
 use Rattle.unit.specs.declared.Rings.{Rings}
 use Rattle.unit.specs.UnitState.{UnitState}
-use Rattle.unit.specs.Model.{Model}
-use Rattle.unit.specs.Layout.{lengths, storeLen, workLen}
+use Rattle.unit.specs.Layout.{Model, lengths, storeLen, workLen}
 use Rattle.unit.specs.Range.{cursorsIn}
 
 -- the rings of a unit, where those of its lines have the lengths ls; and as they are

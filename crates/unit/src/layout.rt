@@ -1,6 +1,14 @@
 // How the wall unit is built and how its memory lies, each number once. The other crates use these
-// names, and prove of them what the model of the unit says: `wall` in specs/Model.antt.
+// names, and prove of them what specs/Layout.antt says.
+use delay::LONGEST_RING;
 use primes::DELAYS;
+use samples::and;
+ghost use mathlib.Core.Path.{_≡_};
+ghost use mathlib.Core.Bool.{_&&_, cond};
+ghost use Prim.Native.Nat.{_≤_};
+ghost use lib.Dec.{leb};
+ghost use Rattle.delay.specs.Calls.{longestRing};
+ghost use Rattle.unit.specs.Layout.{wall, placesOf};
 
 // The lines.
 pub const LINES: usize = 16;
@@ -43,15 +51,9 @@ pub const ALLPASS_FLOATS: usize = PASS_LENGTHS[0]
 pub const DELAYS_AND_RINGS: usize = LINES / 4 * (DELAYS[0] + DELAYS[1] + DELAYS[2] + DELAYS[3])
     + ALLPASS_FLOATS;
 
-// The rows of the work memory, a frame each: row 0 is the input, and from row 1 on lie the lines read.
-// The lines mixed lie from this row on.
-pub const MIXED_ROW: usize = 1 + LINES;
-
-// The row of the output.
-pub const OUTPUT_ROW: usize = MIXED_ROW + LINES;
-
-// All rows. After them lie the allpass rings.
-pub const ROWS: usize = OUTPUT_ROW + 1;
+// The rows of the work memory, a frame each: the input, the lines read, the lines mixed and the output.
+// After them lie the allpass rings.
+pub const ROWS: usize = 1 + LINES + LINES + 1;
 
 // The mark of the mix. The marks before it are the reads'.
 pub const MIX_MARK: usize = LINES;
@@ -64,3 +66,40 @@ pub const OUTPUT_MARK: usize = LINE_MARK + LINES;
 
 // The jobs of a frame, a mark each.
 pub const JOBS: usize = OUTPUT_MARK + 1;
+
+// Where the parts of a work memory begin that come after the input: the rows read, the rows mixed, the
+// output and the allpass rings (R1.22).
+pub struct Places {
+    pub reads: usize,
+    pub mixed: usize,
+    pub output: usize,
+    pub rings: usize,
+}
+
+// The places in the work memory of n lines and a frame of f. Where there are more lines than the wall
+// unit's, or a row is longer than a ring may be, there is no such memory, and every place is 0.
+pub fn work_places(n: usize, f: usize) -> Places
+    ensures { λ r. ⌜ r ≡ cond (leb n (wall .lines) && leb f longestRing) (placesOf n f) (placesOf 0 0) ⌝ }
+{
+    if !and(n <= LINES, f <= LONGEST_RING) {
+        return places_of(0, 0);
+    }
+    places_of(n, f)
+}
+
+// The same where there is.
+fn places_of(n: usize, f: usize) -> Places
+    requires { ⌜ (n ≤ wall .lines) × (f ≤ longestRing) ⌝ }
+    ensures { λ r. ⌜ r ≡ placesOf n f ⌝ }
+{
+    let lines = n * f;
+    let mixed = f + lines;
+    let output = mixed + lines;
+    let rings = output + f;
+    Places {
+        reads: f,
+        mixed,
+        output,
+        rings,
+    }
+}

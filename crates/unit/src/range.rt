@@ -15,7 +15,7 @@ use samples::rate_ok;
 ghost use mathlib.Core.Path.{_≡_};
 ghost use mathlib.Core.Bool.{_||_};
 ghost use Rattle.unit.specs.UnitState.{ofState};
-ghost use Rattle.unit.specs.Model.{wall};
+ghost use Rattle.unit.specs.Layout.{wall};
 ghost use Rattle.unit.specs.Range.{below, cursorsIn, isZero, unmarked, blankFilters, blankOpen, inRange};
 
 // Whether a state is one that the unit's calls take (R1.27).

@@ -20,7 +20,7 @@ ghost use mathlib.Core.Bool.{cond};
 ghost use lib.ListN.{replicate};
 ghost use Rattle.samples.specs.Sizes.{frameOk};
 ghost use Rattle.unit.specs.UnitState.{ofState};
-ghost use Rattle.unit.specs.Model.{wall};
+ghost use Rattle.unit.specs.Layout.{wall};
 ghost use Rattle.unit.specs.Room.{ringsWith, unitRings, ringsHold, passesAre, lentOk, roomOk};
 
 // Whether the store, the work memory and the output have the lengths that a unit asks (R1.19, R1.21,

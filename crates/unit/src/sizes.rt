@@ -12,8 +12,7 @@ ghost use lib.Dec.{eqb};
 ghost use lib.ListN.{replicate};
 ghost use Rattle.samples.specs.Sizes.{longestFrame, frameOk};
 ghost use Rattle.unit.specs.UnitState.{ofState};
-ghost use Rattle.unit.specs.Model.{wall};
-ghost use Rattle.unit.specs.Layout.{lengths, storeLen, workLen};
+ghost use Rattle.unit.specs.Layout.{wall, lengths, storeLen, workLen};
 
 // The lengths of the lines' rings of a unit (R1.10). Where its frame is out of range there is no such
 // unit, and no ring.

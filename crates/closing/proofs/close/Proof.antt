@@ -5,7 +5,7 @@ use mathlib.Core.Bool.{_&&_, true}
 use lib.ListN.{length}
 use Rattle.samples.proofs.Laws.{is-accepted}
 use Rattle.unit.specs.UnitState.{ofState}
-use Rattle.unit.specs.Model.{wall}
+use Rattle.unit.specs.Layout.{wall}
 use Rattle.unit.proofs.Outcomes.{refused, let-by}
 use Rattle.unit.specs.Room.{lentOk}
 use Rattle.judges.specs.Marks.{allDone}

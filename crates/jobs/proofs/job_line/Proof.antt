@@ -14,7 +14,7 @@ use Rattle.samples.proofs.Laws.{is-accepted, join-and}
 use Rattle.audio_buffer.specs.declared.AudioEffectState.the-variants.{TailComplete}
 use Rattle.iir.specs.declared.Filter.{Filter}
 use Rattle.unit.specs.UnitState.{UnitState, ofState}
-use Rattle.unit.specs.Model.{wall}
+use Rattle.unit.specs.Layout.{wall, mixMark, lineMark}
 use Rattle.judges.specs.Judges.{workOk}
 use Rattle.judges.specs.Marks.{marked}
 use Rattle.judges.specs.Turns.{judgedLine}
@@ -32,7 +32,6 @@ use Rattle.jobs.proofs.job_line.Reads as reads
 use Rattle.jobs.proofs.job_line.Lts as lts
 use Rattle.jobs.proofs.steps.marked.Reads as marked-reads
 use Rattle.unit.proofs.quiet.Reads as quiet-reads
-use Rattle.unit.specs.Layout.{mixMark, lineMark}
 use Rattle.rows.proofs.make_line.Reads as make-line-reads
 use Rattle.samples.proofs.is_accepted.Reads as is-accepted-reads
 use Rattle.judges.proofs.judge_line.Reads as judge-line-reads

@@ -9,7 +9,7 @@ use Rattle.samples.proofs.Laws.{is-accepted}
 use Rattle.audio_buffer.specs.declared.AudioEffectState.the-variants.{TailComplete}
 use Rattle.unit.specs.UnitState.{ofState}
 use Rattle.unit.specs.declared.State.{State}
-use Rattle.unit.specs.Model.{wall}
+use Rattle.unit.specs.Layout.{wall, mixMark}
 use Rattle.judges.specs.Judges.{workOk}
 use Rattle.judges.specs.Marks.{marked, allRead}
 use Rattle.judges.specs.Turns.{judgedMix}
@@ -17,7 +17,6 @@ use Rattle.rows.proofs.RowsOf.{work-fits}
 use Rattle.unit.specs.Outcome.{outcome}
 use Rattle.judges.proofs.Fits.{due-of}
 use Rattle.unit.proofs.Outcomes.{refused, let-by}
-use Rattle.unit.specs.Layout.{mixMark}
 use Rattle.machine.specs.Ending.{Memory, lend}
 use Rattle.machine.specs.Jobs.{mixJob, memoryDone}
 use Rattle.machine.proofs.Ends.{quiet-refused, quiet-let-by}

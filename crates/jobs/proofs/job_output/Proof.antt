@@ -9,14 +9,13 @@ use Rattle.samples.proofs.Laws.{is-accepted}
 use Rattle.audio_buffer.specs.declared.AudioEffectState.the-variants.{TailComplete}
 use Rattle.iir.specs.declared.Filter.{Filter}
 use Rattle.unit.specs.UnitState.{UnitState, ofState}
-use Rattle.unit.specs.Model.{wall}
+use Rattle.unit.specs.Layout.{wall, outputMark}
 use Rattle.judges.specs.Judges.{workOk}
 use Rattle.judges.specs.Marks.{marked, allRead}
 use Rattle.judges.specs.Turns.{judgedOutput}
 use Rattle.unit.specs.Outcome.{outcome}
 use Rattle.judges.proofs.Fits.{due-of}
 use Rattle.unit.proofs.Outcomes.{refused, let-by}
-use Rattle.unit.specs.Layout.{outputMark}
 use Rattle.machine.specs.Ending.{Memory, lend}
 use Rattle.machine.specs.Jobs.{outputJob, unitMarked, memoryDone}
 use Rattle.machine.proofs.Ends.{quiet-refused, quiet-let-by}

@@ -14,9 +14,8 @@ use Rattle.audio_buffer.specs.declared.AudioEffectState.the-variants.{TailCompl
 use Rattle.unit.specs.UnitState.{UnitState, ofState}
 use Rattle.unit.specs.declared.State.{State}
 use Rattle.unit.specs.declared.Rings.{Rings}
-use Rattle.unit.specs.Model.{wall}
+use Rattle.unit.specs.Layout.{wall, lengths}
 use Rattle.unit.specs.Range.{cursorsIn}
-use Rattle.unit.specs.Layout.{lengths}
 use Rattle.unit.specs.Room.{ringsWith, unitRings, ringsHold}
 use Rattle.unit.proofs.Ranges.{wall-holds}
 use Rattle.samples.specs.Sizes.{rateOk, frameOk}

@@ -5,7 +5,7 @@ use Rattle.samples.specs.declared.Answer.the-variants.{BadSize, BadLength}
 use Rattle.samples.proofs.Laws.{need-of, and-of}
 use Rattle.unit.specs.declared.State.{State}
 use Rattle.unit.specs.UnitState.{ofState}
-use Rattle.unit.specs.Model.{wall}
+use Rattle.unit.specs.Layout.{wall}
 use Rattle.judges.specs.Judges.{storeOk, judgedFresh}
 use Rattle.judges.proofs.judge_fresh.Statement.{statement}
 use Rattle.judges.proofs.judge_fresh.Tie as tie

@@ -9,14 +9,12 @@ use Rattle.samples.proofs.Laws.{is-accepted}
 use Rattle.audio_buffer.specs.declared.AudioEffectState.the-variants.{TailComplete}
 use Rattle.unit.specs.UnitState.{UnitState, ofState}
 use Rattle.unit.specs.Outcome.{outcome}
-use Rattle.unit.specs.Model.{wall}
-use Rattle.unit.specs.Layout.{lengths}
+use Rattle.unit.specs.Layout.{wall, lengths, allpassIn}
 use Rattle.unit.proofs.Outcomes.{refused, let-by}
 use Rattle.judges.specs.Judges.{storeOk, workOk}
 use Rattle.judges.specs.Turns.{judgedOpenApply}
 use Rattle.judges.proofs.Fits.{given-of}
 use Rattle.bands.specs.declared.Counted.{Counted}
-use Rattle.stages.specs.Frame.{allpassIn}
 use Rattle.reverb.proofs.WholeParts.{filters-given}
 use Rattle.machine.specs.Ending.{Memory, lend}
 use Rattle.machine.specs.Whole as Play

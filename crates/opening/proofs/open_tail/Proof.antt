@@ -9,7 +9,7 @@ use Rattle.samples.proofs.Laws.{is-accepted}
 use Rattle.audio_buffer.specs.declared.AudioEffectState.the-variants.{TailComplete}
 use Rattle.unit.specs.UnitState.{UnitState, ofState}
 use Rattle.unit.specs.Outcome.{outcome}
-use Rattle.unit.specs.Model.{wall}
+use Rattle.unit.specs.Layout.{wall}
 use Rattle.unit.proofs.Outcomes.{refused, let-by}
 use Rattle.judges.specs.Judges.{storeOk, workOk}
 use Rattle.judges.specs.Turns.{judgedOpenTail}

@@ -8,7 +8,7 @@ use Prim.Native.Nat.{ℕ}
 use lib.Ieee.{Float}
 use Rattle.delay.specs.declared.Cursors.{Cursors}
 use Rattle.iir.specs.declared.Filter.{Filter}
-use Rattle.unit.specs.Model.{wall}
+use Rattle.unit.specs.Layout.{wall}
 use Rattle.outputs.specs.Parts.{outputEnds, outputLaid}
 use Rattle.rows.proofs.Ways.{shut, let-in}
 use Rattle.rows.proofs.RowsOf.{work-fits}

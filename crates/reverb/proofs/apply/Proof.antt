@@ -8,7 +8,7 @@ use denote.Ref.{now}
 use Rattle.samples.specs.Answers.{accepted}
 use Rattle.bands.specs.declared.Counted.{Counted}
 use Rattle.unit.specs.UnitState.{ofState}
-use Rattle.unit.specs.Model.{wall}
+use Rattle.unit.specs.Layout.{wall}
 use Rattle.judges.specs.Judges.{judgedApply}
 use Rattle.unit.specs.Room.{unitRings}
 use Rattle.stages.specs.Frame.{frameIn}

@@ -6,7 +6,7 @@ use lib.IntN.{pos}
 use lib.ListN.{length}
 use denote.Ref.{now}
 use Rattle.unit.specs.UnitState.{ofState}
-use Rattle.unit.specs.Model.{wall}
+use Rattle.unit.specs.Layout.{wall}
 use Rattle.unit.proofs.Outcomes.{refused, let-by}
 use Rattle.judges.specs.Judges.{judgedReset}
 use Rattle.machine.specs.Ending.{Memory, lend, cleared}

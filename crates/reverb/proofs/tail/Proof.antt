@@ -7,7 +7,7 @@ use denote.Ref.{now}
 use Rattle.samples.specs.declared.Frames.{Frames}
 use Rattle.samples.proofs.Laws.{is-accepted}
 use Rattle.unit.specs.UnitState.{ofState}
-use Rattle.unit.specs.Model.{wall}
+use Rattle.unit.specs.Layout.{wall}
 use Rattle.unit.specs.Room.{unitRings, lentOk}
 use Rattle.unit.proofs.Outcomes.{refused, let-by}
 use Rattle.judges.specs.Judges.{judgedTail}

@@ -3,7 +3,7 @@ use borrow.Author.Needs.{needs}
 use mathlib.Core.Path.{_∙_}
 use mathlib.Core.Bool.{true, _&&_}
 use Rattle.unit.specs.UnitState.{ofState}
-use Rattle.unit.specs.Model.{wall}
+use Rattle.unit.specs.Layout.{wall}
 use Rattle.judges.specs.Judges.{judged}
 use Rattle.judges.proofs.turns.judge_close.Statement.{statement}
 use Rattle.judges.proofs.turns.judge_close.Tie as tie

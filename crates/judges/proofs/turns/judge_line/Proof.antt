@@ -4,7 +4,7 @@ use mathlib.Core.Path.{_∙_}
 use mathlib.Core.Bool.{not, _&&_}
 use lib.Dec.{ltb}
 use Rattle.unit.specs.UnitState.{ofState}
-use Rattle.unit.specs.Model.{wall}
+use Rattle.unit.specs.Layout.{wall}
 use Rattle.judges.specs.Judges.{judged}
 use Rattle.judges.proofs.turns.judge_line.Statement.{statement}
 use Rattle.judges.proofs.turns.judge_line.Tie as tie

@@ -4,7 +4,7 @@ use mathlib.Core.Path.{ap, _∙_}
 use mathlib.Core.Bool.{Bool, true, not, _&&_}
 use Rattle.samples.specs.Answers.{orElse}
 use Rattle.unit.specs.UnitState.{ofState}
-use Rattle.unit.specs.Model.{wall}
+use Rattle.unit.specs.Layout.{wall}
 use Rattle.judges.specs.Judges.{judged}
 use Rattle.judges.proofs.turns.judge_open_apply.Statement.{statement}
 use Rattle.judges.proofs.turns.judge_open_apply.Tie as tie

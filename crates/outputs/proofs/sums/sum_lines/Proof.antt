@@ -2,27 +2,33 @@
 -- sums to the answer. Assumes nothing.
 use borrow.Author.Needs.{needs}
 use native.Mathlib.Omega.{arith}
-use mathlib.Core.Path.{refl, _∙_}
-use Prim.Native.Nat.{_+_, _-_, _*_}
-use lib.ListN.{take, drop}
+use mathlib.Core.Path.{_≡_, refl, ap, _∙_}
+use mathlib.Core.List.{_++_}
+use Prim.Native.Nat.{ℕ, _+_, _-_, _*_}
+use lib.ListN.{length, take, drop, replicate}
 use denote.Ref.{now}
+use Rattle.samples.specs.Binary32.{+0}
 use Rattle.stages.specs.Lines.{sumRows}
 use Rattle.outputs.proofs.SumTurns.{Summing, cleared-long, sum-holds, sum-turn, sum-done, sum-of}
 use Rattle.outputs.proofs.sums.sum_lines.Statement.{statement}
 use Rattle.outputs.proofs.sums.sum_lines.Tie as tie
 
 abbrev Inv-loop : tie.InvT-loop
-Inv-loop n f rows₀ m at b₀ counter₀ rows b counter =
+Inv-loop n f rows₀ at b₀ counter₀ rows b counter =
     Summing n f at (take at rows₀) (sumRows f n (drop at rows₀) (take (n * f) (take at rows₀))) counter b rows
 
 abbrev μ-loop : tie.MeasureT-loop
-μ-loop n f rows₀ m at b₀ counter₀ rows b counter = n - counter
+μ-loop n f rows₀ at b₀ counter₀ rows b counter = n - counter
+
+-- the output is the last of the rows
+long : (s : tie.Start Inv-loop μ-loop) → length (now (s .args .rows)) ≡ length (now (s .args .rows)) - s .args .f + s .args .f
+long s = omega (arith, s .pre)
 
 loop-holds : tie.Need-loop-holds Inv-loop μ-loop
 loop-holds c =
     let called = c .before .before in
     let s = called .before .before .before in
-    let e = cleared-long (s .args .n * s .args .f + s .args .n * s .args .f) (s .args .f) (now (s .args .rows)) _ (s .pre) (called .clear .ensures) in
+    let e = cleared-long _ (s .args .f) (now (s .args .rows)) _ (long s) (called .clear .ensures) in
     sum-holds (s .args .n) (s .args .f) _ _ _ (omega arith) _ e refl refl
 
 loop-again : tie.Need-loop-again Inv-loop μ-loop
@@ -38,8 +44,11 @@ returns c =
     let l = c .before .loop in
     let called = c .before .before .before .before in
     let s = called .before .before .before in
-    sum-done (s .args .n) (s .args .f) _ _ _ (omega arith) (l .counter) (l .b) (l .rows) (c .loop-test .left) (l .inv)
-    ∙ sum-of _ (s .args .f) (now (s .args .rows)) _ (s .pre) (called .clear .ensures) (s .args .n) (omega arith)
+    let rows = now (s .args .rows) in
+    let at : length rows - s .args .f ≡ s .args .n * s .args .f + s .args .n * s .args .f = omega (arith, s .pre) in
+    sum-done (s .args .n) (s .args .f) _ _ _ (omega (arith, s .pre)) (l .counter) (l .b) (l .rows) (c .loop-test .left) (l .inv)
+    ∙ sum-of _ (s .args .f) rows _ (long s) (called .clear .ensures) (s .args .n) (omega (arith, s .pre))
+    ∙ ap (λ (k : ℕ). take k rows ++ sumRows (s .args .f) (s .args .n) (replicate (s .args .f) +0) (take (s .args .n * s .args .f) rows)) at
 
 pub sum-lines-spec : {M : Type 1} → statement M
 sum-lines-spec =
@@ -47,7 +56,6 @@ sum-lines-spec =
     (tie.spec
     Inv-loop
     μ-loop
-    (λ c. search needs)
     (λ c. search needs)
     (λ c. search needs)
     (λ c. search needs)

@@ -6,16 +6,13 @@ use mathlib.Core.Bool.{true, false, _&&_}
 use mathlib.Core.List.{List}
 use Prim.Native.Nat.{ℕ, _%_}
 use lib.Dec.{eqb}
+use Rattle.unit.specs.Layout.{placesOf}
+use Rattle.unit.proofs.Places.{placed, rings-after}
 use Rattle.rows.specs.Fits.{fewRows, outputFits}
 use Rattle.rows.proofs.Ways.{shut, let-in}
-use Rattle.rows.proofs.RowFits.{Few, few-of, output-short, output-long}
+use Rattle.rows.proofs.RowFits.{few-of, output-short, output-long}
 use Rattle.rows.proofs.fits.output_fits.Statement.{statement}
 use Rattle.rows.proofs.fits.output_fits.Tie as tie
-use Rattle.rows.proofs.fits.output_fits.Reads as reads
-use Rattle.rows.proofs.fits.output_fits.Lts as lts
-use Rattle.rows.proofs.fits.few_rows.Reads as few-rows-reads
-use Rattle.rows.proofs.fits.sum_to.Reads as sum-to-reads
-use Rattle.samples.proofs.and.Reads as and-reads
 
 many : (n f : ℕ) (ps : List ℕ) (len : ℕ) → fewRows n f ≡ false → false ≡ outputFits n f ps len
 unfolding outputFits
@@ -24,35 +21,30 @@ many n f ps len e = rw e refl
 returns : tie.Need-returns
 returns c = let a = c .before .before .args in many (a .n) (a .f) (a .ps) (a .len) (shut _ _ (c .before .few-rows .ensures) (c .if1 .taken))
 
-module _ (c : lts.Else1 (few-rows-reads.Asked, few-rows-reads.Learnt, sum-to-reads.Asked, sum-to-reads.Learnt, and-reads.Asked, and-reads.Learnt) reads.Pre reads.Post) where
-  passed : fewRows (c .before .before .args .n) (c .before .before .args .f) ≡ true
-  passed = let-in _ _ (c .before .few-rows .ensures) (c .if1 .left)
+passed : (c : tie.Else1) → fewRows (c .before .before .args .n) (c .before .before .args .f) ≡ true
+passed c = let-in _ _ (c .before .few-rows .ensures) (c .if1 .left)
 
-  small : Few (c .before .before .args .n) (c .before .before .args .f)
-  small = few-of _ _ passed
+at : (c : tie.After-work-places) → c .work-places .result ≡ placesOf (c .before .before .before .args .n) (c .before .before .before .args .f)
+at c = let s = few-of _ _ (passed (c .before)) in placed _ _ (s .few) (s .small) (c .work-places .ensures)
 
-mul-rows : tie.Need-mul-rows
-mul-rows c = let s = small c in omega (arith, s .all)
-
-mul-rows-2 : tie.Need-mul-rows-2
-mul-rows-2 c = let s = small c in omega (arith, s .all)
-
-add-rows : tie.Need-add-rows
-add-rows c = let s = small c in omega (arith, s .all)
-
-add-rows-2 : tie.Need-add-rows-2
-add-rows-2 c = let s = small c in omega (arith, s .all, s .small)
+sub-rows : tie.Need-sub-rows
+sub-rows c = rw (at (c .before)) (omega arith)
 
 returns-2 : tie.Need-returns-2
-returns-2 c = let a = c .before .before .before .args in sym (output-short (a .n) (a .f) (a .ps) (a .len) (c .if2 .taken))
+returns-2 c =
+    let called = c .before .before in
+    let a = called .before .before .before .args in
+    sym (output-short (a .n) (a .f) (a .ps) (a .len) (rw (rings-after (a .n) (a .f) (at called)) at (c .if2 .taken)))
 
 returns-3 : tie.Need-returns-3
 returns-3 c =
     let last = c .before .before in
-    let a = last .before .before .before .args in
+    let called = last .before .before in
+    let a = called .before .before .before .args in
+    let rows = rings-after (a .n) (a .f) (at called) in
     c .and .ensures
     ∙ (λ i. eqb (a .f % 4) 0 && c .before .sum-to .ensures i)
-    ∙ output-long (a .n) (a .f) (a .ps) (a .len) (last .if2 .left) (passed (last .before))
+    ∙ rw rows (output-long (a .n) (a .f) (a .ps) (a .len) (rw rows at (last .if2 .left)) (passed (called .before)))
 
 pub output-fits-spec : {M : Type 1} → statement M
 output-fits-spec =
@@ -60,10 +52,8 @@ output-fits-spec =
     (tie.spec
     (λ c κs. search needs)
     returns
-    mul-rows
-    mul-rows-2
-    add-rows
-    add-rows-2
+    (λ c κs. search needs)
+    sub-rows
     returns-2
     (λ c κs. search needs)
     (λ c κs. search needs)

@@ -7,7 +7,7 @@ use mathlib.Core.List.{List}
 use Prim.Native.Nat.{ℕ}
 use lib.Ieee.{Float}
 use Rattle.unit.specs.declared.Rings.{Rings}
-use Rattle.unit.specs.Model.{wall}
+use Rattle.unit.specs.Layout.{wall}
 use Rattle.rows.proofs.Ways.{shut, let-in}
 use Rattle.rows.specs.Reads.{readLaid}
 use Rattle.rows.proofs.ReadLaid.{line-fits}

@@ -6,8 +6,7 @@ use lib.ListN.{length}
 use denote.Ref.{now}
 use Rattle.samples.specs.declared.Answer.the-variants.{Accepted}
 use Rattle.samples.specs.Sizes.{rateOk, frameOk}
-use Rattle.unit.specs.Model.{wall}
-use Rattle.unit.specs.Layout.{lengthsFrom, total, storeLen}
+use Rattle.unit.specs.Layout.{wall, lengthsFrom, total, storeLen}
 use Rattle.judges.specs.Judges.{judgedFresh}
 use Rattle.shell.specs.Settings.{frame, rate, storeFloats}
 use Rattle.shell.proofs.settings.start.Statement.{statement}

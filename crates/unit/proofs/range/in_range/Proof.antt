@@ -6,8 +6,7 @@ use Prim.Native.Nat.{ℕ}
 use Rattle.samples.proofs.Laws.{and-of}
 use Rattle.unit.specs.Range.{inRange, cursorsIn, blankOpen}
 use Rattle.unit.specs.UnitState.{ofState}
-use Rattle.unit.specs.Model.{wall}
-use Rattle.unit.specs.Layout.{lengths}
+use Rattle.unit.specs.Layout.{wall, lengths}
 use Rattle.samples.specs.Sizes.{rateOk}
 use mathlib.Core.Bool.{_||_}
 use Rattle.unit.proofs.Ranges.{in-range-lengths}

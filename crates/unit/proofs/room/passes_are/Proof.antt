@@ -7,7 +7,7 @@ use lib.Dec.{eqb}
 use lib.ListN.{take, getD}
 use Rattle.samples.specs.Lists.{allFrom}
 use Rattle.samples.proofs.Laws.{all-more, all-end}
-use Rattle.unit.specs.Model.{wall}
+use Rattle.unit.specs.Layout.{wall}
 use Rattle.unit.specs.Room.{passesAre}
 use Rattle.unit.proofs.room.passes_are.Statement.{statement}
 use Rattle.unit.proofs.room.passes_are.Tie as tie

@@ -7,8 +7,7 @@ use Prim.Native.Nat.{ℕ}
 use lib.ListN.{replicate}
 use Rattle.samples.specs.Sizes.{frameOk}
 use Rattle.unit.specs.UnitState.{UnitState, ofState}
-use Rattle.unit.specs.Model.{wall}
-use Rattle.unit.specs.Layout.{lengths}
+use Rattle.unit.specs.Layout.{wall, lengths}
 use Rattle.unit.specs.Room.{ringsWith}
 use Rattle.unit.proofs.room.rings_of.Statement.{statement}
 use Rattle.unit.proofs.room.rings_of.Tie as tie

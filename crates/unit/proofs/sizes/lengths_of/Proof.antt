@@ -7,8 +7,7 @@ use Prim.Native.Nat.{ℕ, _+_, _≤_, _-_}
 use lib.ListN.{length, take, length-set}
 use Rattle.samples.proofs.Turns.{all-done}
 use Rattle.unit.specs.UnitState.{ofState}
-use Rattle.unit.specs.Model.{wall}
-use Rattle.unit.specs.Layout.{lengthsFrom}
+use Rattle.unit.specs.Layout.{wall, lengthsFrom}
 use Rattle.primes.proofs.Table.{delay-range}
 use Rattle.unit.proofs.Ranges.{lengths-turn}
 use Rattle.unit.proofs.sizes.lengths_of.Statement.{statement}
