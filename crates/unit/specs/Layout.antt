@@ -1,8 +1,8 @@
 -- How a unit is built and how its memory lies, each number once: what a model is, and the wall unit's; the rings and where they lie in the store;
 -- the rows of the work memory and where they begin; how many filters and jobs it has, and the marks of the jobs.
-use Prim.Native.Nat.{ℕ, zero, suc, _+_, _*_}
+use Prim.Native.Nat.{ℕ, zero, suc, _+_, _*_, _<_}
 use mathlib.Core.Path.{_≡_}
-use mathlib.Core.List.{List, [], _∷_}
+use mathlib.Core.List.{List, [], _∷_, map}
 use lib.Ieee.{Float, binary32, ofBits}
 use lib.ListN.{length, getD, take, drop}
 use Rattle.primes.specs.Table.{delayAt}
@@ -74,6 +74,24 @@ StoreIs = (u : UnitState) → storeLen wall (lengths wall u) ≡ 7600 + 16 * u .
 
 abbrev pub WorkIs : Type 0
 WorkIs = (f : ℕ) → workLen wall f ≡ 1348 + 34 * f
+
+-- R1.20: where the wall unit's rings begin in the store: that of line 4 q + r, and after all lines' the allpass rings
+abbrev pub RingBegins : UnitState → ℕ → ℕ → Type 0
+RingBegins u q r = total (take (4 * q + r) (lengths wall u)) ≡ 1563 * q + getD (0 ∷ 225 ∷ 566 ∷ 1007 ∷ []) r 0 + (4 * q + r) * u .settings .frame
+
+abbrev pub RingsBegin : Type 0
+RingsBegin = (u : UnitState) (q r : ℕ) → q < 4 → r < 4 → RingBegins u q r
+
+abbrev pub PassesBegin : Type 0
+PassesBegin = (u : UnitState) → total (lengths wall u) ≡ 6252 + 16 * u .settings .frame
+
+-- R1.22: where its rows begin in the work memory, and then the allpass rings
+abbrev pub RowsBegin : Type 0
+RowsBegin = (f : ℕ) → placesOf (wall .lines) f ≡ record { reads = f; mixed = 17 * f; output = 33 * f; rings = 34 * f }
+
+-- R1.20, R1.22: where the allpass rings begin among themselves
+abbrev pub AmongPasses : Type 0
+AmongPasses = map (λ (k : ℕ). total (take k (wall .passLengths))) (0 ∷ 1 ∷ 2 ∷ 3 ∷ []) ≡ 0 ∷ 225 ∷ 566 ∷ 907 ∷ []
 
 -- R1.15: three band filters a line, and three of the tone
 abbrev pub filtersLen : Model → ℕ
