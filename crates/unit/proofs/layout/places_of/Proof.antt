@@ -1,7 +1,7 @@
 -- `unit::layout::places_of` meets its contract: n rows of f are at most 16 rings of the longest. Assumes nothing.
 use native.Mathlib.Omega.{arith}
 use native.Mathlib.Nat.{mul-le-mul}
-use borrow.Author.Needs.{needs}
+use mathlib.Core.Path.{refl}
 use Prim.Native.Nat.{_*_, _≤_}
 use Rattle.unit.proofs.layout.places_of.Statement.{statement}
 use Rattle.unit.proofs.layout.places_of.Tie as tie
@@ -21,5 +21,8 @@ add-output c = omega (arith, all c, c .pre .1)
 add-rings : tie.Need-add-rings
 add-rings c = omega (arith, all c, c .pre .1)
 
+returns : tie.Need-returns
+returns c = refl
+
 pub places-of-spec : {M : Type 1} → statement M
-places-of-spec = tie.close (tie.spec mul-lines add-mixed add-output add-rings (λ c. search needs))
+places-of-spec = tie.close (tie.spec mul-lines add-mixed add-output add-rings returns)
