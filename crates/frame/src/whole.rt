@@ -17,7 +17,7 @@ ghost use mathlib.Core.List.{_++_};
 ghost use Prim.Native.Nat.{_+_, _*_, _<_, _≤_};
 ghost use lib.ListN.{length, take, drop};
 ghost use Rattle.delay.specs.Calls.{longestRing};
-ghost use Rattle.unit.specs.Layout.{wall, placesOf, filtersLen};
+ghost use Rattle.unit.specs.Layout.{wall, placesOf, filtersLen, bandsLen, filterAt};
 ghost use Rattle.stages.specs.Frame.{lineRows, newFilters, readsOf, frameIn};
 ghost use Rattle.stages.specs.Settle.{settled};
 ghost use Rattle.rows.specs.Rows.{rowsOf, joinedRows};
@@ -45,7 +45,7 @@ pub(crate) fn play_lines(
 ) -> [Filter; FILTERS]
     requires { ⌜ LinesFit n f rings (length (now store)) (n * f) ⌝ }
     requires { ⌜ (0 < n) × (length (now rows) ≡ placesOf n f .output) ⌝ }
-    ensures { λ r. ⌜ r ≡ lineRows n f factor tail fs (take f (now (rows .entry))) (readsOf n f rings (now (store .entry))) .filters ++ drop (3 * n) fs ⌝ }
+    ensures { λ r. ⌜ r ≡ lineRows n f factor tail fs (take f (now (rows .entry))) (readsOf n f rings (now (store .entry))) .filters ++ drop (filterAt n) fs ⌝ }
     ensures { λ _. ⌜ now (rows .exit) ≡ take f (now (rows .entry)) ++ (readsOf n f rings (now (store .entry)) ++ lineRows n f factor tail fs (take f (now (rows .entry))) (readsOf n f rings (now (store .entry))) .put) ⌝ }
 {
     let p = work_places(n, f);
@@ -68,7 +68,7 @@ pub(crate) fn frame_rows(
     work: &mut [f32],
 ) -> [Filter; FILTERS]
     requires { ⌜ FrameFits n f rings (length (now store)) (length (now work)) ⌝ }
-    ensures { λ r. ⌜ r ≡ newFilters (frameIn n f factor divisor tail rings fs (take f (now (work .entry))) (now (store .entry))) ++ drop (3 * n + 3) fs ⌝ }
+    ensures { λ r. ⌜ r ≡ newFilters (frameIn n f factor divisor tail rings fs (take f (now (work .entry))) (now (store .entry))) ++ drop (filterAt n + bandsLen) fs ⌝ }
     ensures { λ _. ⌜ now (work .exit) ≡ joinedRows (rowsIn (take f (now (work .entry))) (frameIn n f factor divisor tail rings fs (take f (now (work .entry))) (now (store .entry)))) ⌝ }
 {
     let p = work_places(n, f);
@@ -171,7 +171,7 @@ pub(crate) fn judge_frame(
     output: &mut [f32],
 ) -> Judged
     requires { ⌜ FrameFits n f rings (length (now store)) (length (now work)) ⌝ }
-    requires { ⌜ (length (now output) ≡ f) × (3 * n + 3 ≡ filtersLen wall) ⌝ }
+    requires { ⌜ (length (now output) ≡ f) × (filterAt n + bandsLen ≡ filtersLen wall) ⌝ }
     ensures { λ r. ⌜ r ≡ judgedOf (ranWithRoom n f factor divisor tail rings fs (now (store .entry)) (now (work .entry)) (now (output .entry)) .stepped) ⌝ }
     ensures { λ _. ⌜ now (store .exit) ≡ ranWithRoom n f factor divisor tail rings fs (now (store .entry)) (now (work .entry)) (now (output .entry)) .store ⌝ }
     ensures { λ _. ⌜ now (work .exit) ≡ ranWithRoom n f factor divisor tail rings fs (now (store .entry)) (now (work .entry)) (now (output .entry)) .work ⌝ }

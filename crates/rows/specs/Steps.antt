@@ -5,6 +5,7 @@ use mathlib.Core.List.{List, _++_}
 use lib.Ieee.{Float}
 use lib.ListN.{length, take, drop}
 use Rattle.iir.specs.declared.Filter.{Filter}
+use Rattle.unit.specs.Layout.{filterAt}
 use Rattle.stages.specs.Frame.{LineRows, lineRows}
 use Rattle.rows.specs.Fits.{linesFit}
 
@@ -17,4 +18,4 @@ linesLaid n f k tail fs rows =
     cond (linesFit n f (length rows)) (take f rows ++ (take (n * f) (drop f rows) ++ linesIn n f k tail fs rows .put)) rows
 
 unfoldable pub linesEnds : ℕ → ℕ → Float → Bool → List Filter → List Float → List Filter
-linesEnds n f k tail fs rows = cond (linesFit n f (length rows)) (linesIn n f k tail fs rows .filters ++ drop (3 * n) fs) fs
+linesEnds n f k tail fs rows = cond (linesFit n f (length rows)) (linesIn n f k tail fs rows .filters ++ drop (filterAt n) fs) fs

@@ -13,7 +13,7 @@ ghost use lib.Dec.{leb};
 ghost use lib.ListN.{length, drop};
 ghost use Rattle.samples.specs.Lists.{over};
 ghost use Rattle.iir.specs.Runs.{bandsOut, bandsEnd};
-ghost use Rattle.unit.specs.Layout.{wall, filtersLen};
+ghost use Rattle.unit.specs.Layout.{wall, filtersLen, filterAt};
 ghost use Rattle.bank.specs.Lines.{linesOut, linesEnd};
 ghost use Rattle.stages.specs.Lines.{bandRows, bandEnds, three, threeOf};
 ghost use Rattle.rows.specs.Workers.{fourFrom, threesOf};
@@ -47,8 +47,8 @@ fn with_three(k: usize, b: Bands, fs: [Filter; FILTERS]) -> [Filter; FILTERS]
 // Filters a row by the three filters from k on, and gives the filters after it. Where there are no
 // three nothing is done (R3.25).
 pub fn three_at(k: usize, fs: [Filter; FILTERS], row: &mut [f32]) -> [Filter; FILTERS]
-    ensures { λ r. ⌜ r ≡ cond (leb k (3 * wall .lines)) (over k (threeOf (bandsEnd (three k fs) (now (row .entry)))) fs) fs ⌝ }
-    ensures { λ _. ⌜ now (row .exit) ≡ cond (leb k (3 * wall .lines)) (bandsOut (three k fs) (now (row .entry))) (now (row .entry)) ⌝ }
+    ensures { λ r. ⌜ r ≡ cond (leb k (filterAt (wall .lines))) (over k (threeOf (bandsEnd (three k fs) (now (row .entry)))) fs) fs ⌝ }
+    ensures { λ _. ⌜ now (row .exit) ≡ cond (leb k (filterAt (wall .lines))) (bandsOut (three k fs) (now (row .entry))) (now (row .entry)) ⌝ }
 {
     if TONE < k {
         return fs;
@@ -84,7 +84,7 @@ pub(crate) fn band_lines(
     rows: &mut [f32],
 ) -> [Filter; FILTERS]
     requires { ⌜ (n ≤ wall .lines) × (length (now rows) ≡ n * f) ⌝ }
-    ensures { λ r. ⌜ r ≡ bandEnds f n 0 fs (now (rows .entry)) ++ drop (3 * n) fs ⌝ }
+    ensures { λ r. ⌜ r ≡ bandEnds f n 0 fs (now (rows .entry)) ++ drop (filterAt n) fs ⌝ }
     ensures { λ _. ⌜ now (rows .exit) ≡ bandRows f n 2 fs (bandRows f n 1 fs (bandRows f n 0 fs (now (rows .entry)))) ⌝ }
 {
     let mut gs = fs;

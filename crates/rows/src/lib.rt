@@ -29,7 +29,7 @@ ghost use Prim.Native.Nat.{_*_, _<_, _≤_};
 ghost use lib.Dec.{ltb};
 ghost use lib.ListN.{length, take, drop};
 ghost use Rattle.delay.specs.Calls.{longestRing};
-ghost use Rattle.unit.specs.Layout.{wall, placesOf};
+ghost use Rattle.unit.specs.Layout.{wall, placesOf, filterAt};
 ghost use Rattle.rows.specs.Fits.{workFor};
 ghost use Rattle.rows.specs.Workers.{WorkFits};
 ghost use Rattle.rows.specs.Steps.{linesIn, linesLaid, linesEnds};
@@ -64,7 +64,7 @@ fn lines_in(
     rows: &mut [f32],
 ) -> [Filter; FILTERS]
     requires { ⌜ (0 < n) × (n ≤ wall .lines) × (f ≤ longestRing) × (length (now rows) ≡ placesOf n f .output) ⌝ }
-    ensures { λ r. ⌜ r ≡ linesIn n f factor tail fs (now (rows .entry)) .filters ++ drop (3 * n) fs ⌝ }
+    ensures { λ r. ⌜ r ≡ linesIn n f factor tail fs (now (rows .entry)) .filters ++ drop (filterAt n) fs ⌝ }
     ensures { λ _. ⌜ now (rows .exit) ≡ take f (now (rows .entry)) ++ (take (n * f) (drop f (now (rows .entry))) ++ linesIn n f factor tail fs (now (rows .entry)) .put) ⌝ }
 {
     let p = work_places(n, f);

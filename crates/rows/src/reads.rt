@@ -8,8 +8,9 @@ use unit::rings_hold;
 use unit::work_places;
 ghost use mathlib.Core.Path.{_≡_};
 ghost use mathlib.Core.Bool.{true};
-ghost use Prim.Native.Nat.{_<_, _≤_};
+ghost use Prim.Native.Nat.{_*_, _<_, _≤_};
 ghost use lib.ListN.{length, take};
+ghost use Rattle.delay.specs.Calls.{longestRing};
 ghost use Rattle.unit.specs.Layout.{wall, total, storeLen};
 ghost use Rattle.unit.specs.Room.{ringsHold};
 ghost use Rattle.rows.specs.Workers.{WorkFits};
@@ -54,7 +55,7 @@ fn wall_read(i: usize, f: usize, rings: Rings, store: &[f32], work: &mut [f32])
 
 // Where the ring of line i begins in a store.
 fn line_start(i: usize, ls: [usize; LINES]) -> usize
-    requires { ⌜ (i ≤ wall .lines) × (total ls ≤ 1048576) ⌝ }
+    requires { ⌜ (i ≤ wall .lines) × (total ls ≤ wall .lines * longestRing) ⌝ }
     ensures { λ r. ⌜ r ≡ total (take i ls) ⌝ }
 {
     let mut a = 0usize;

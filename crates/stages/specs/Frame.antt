@@ -1,5 +1,5 @@
 -- One frame, step by step (R4.3 to R4.12), with a name for what each stage gives.
-use Prim.Native.Nat.{ℕ, _+_, _*_, _/_}
+use Prim.Native.Nat.{ℕ, _+_, _/_}
 use mathlib.Core.Bool.{Bool, cond}
 use mathlib.Core.List.{List, _++_, map}
 use lib.Ieee.{Float}
@@ -11,7 +11,7 @@ use Rattle.hadamard.specs.Rows.{mixedRows}
 use Rattle.iir.specs.declared.Filter.{Filter}
 use Rattle.iir.specs.Runs.{runOut, bandsEnd}
 use Rattle.unit.specs.declared.Rings.{Rings}
-use Rattle.unit.specs.Layout.{stretch, allpassIn}
+use Rattle.unit.specs.Layout.{stretch, allpassIn, filterAt}
 use Rattle.allpass.specs.Passes.{Stage, passOut, passEnd}
 use Rattle.stages.specs.Lines.{noFilter, readRows, bandRows, bandEnds, addRows, sumRows, three, threeOf}
 
@@ -66,7 +66,7 @@ pub record OutputRow : Type 0 where
 -- R4.10 to R4.12: step 5 of n lines, the sum divided by d, from the rows that were read and the allpass rings with their lengths ls and cursors cs
 unfoldable pub outputRow : ℕ → ℕ → Float → List ℕ → List Cursors → List Filter → List Float → List Float → OutputRow
 outputRow n f d ls cs fs rings reads =
-    let k = 3 * n in
+    let k = filterAt n in
     let sum = map (λ x. x ⊘ d) (sumRows f n (replicate f +0) reads) in
     let s0 = stageAt ls cs rings 0 in
     let s1 = stageAt ls cs rings 2 in

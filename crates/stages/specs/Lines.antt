@@ -11,6 +11,7 @@ use Rattle.iir.specs.declared.Filter.{Filter}
 use Rattle.iir.specs.declared.Bands.{Bands}
 use Rattle.iir.specs.Step.{fromCoefficients}
 use Rattle.iir.specs.Runs.{runOut, bandsEnd}
+use Rattle.unit.specs.Layout.{bandsLen, perFilter}
 
 -- what a list of filters holds past its end
 abbrev pub noFilter : Filter
@@ -20,7 +21,7 @@ noFilter = record { a1 = nan; a2 = nan; b0 = nan; b1 = nan; b2 = nan; x1 = nan; 
 unfoldable pub filtersOf : ℕ → List Float → List Filter
 filtersOf zero cs = []
 filtersOf (suc n) cs =
-    fromCoefficients (getD cs 0 nan) (getD cs 1 nan) (getD cs 2 nan) (getD cs 3 nan) (getD cs 4 nan) ∷ filtersOf n (drop 5 cs)
+    fromCoefficients (getD cs 0 nan) (getD cs 1 nan) (getD cs 2 nan) (getD cs 3 nan) (getD cs 4 nan) ∷ filtersOf n (drop perFilter cs)
 
 -- R4.5: step 2, the rows read of n lines, from line i on. ls are the lengths of the rings, which the store holds one after the other
 unfoldable pub readRows : ℕ → ℕ → ℕ → List ℕ → List Cursors → List Float → List Float
@@ -31,7 +32,7 @@ readRows f (suc n) i ls cs store =
 -- R4.7: step 4. Each row through one filter of its line, the first through filter k: a line has three, so the next line's is k + 3
 unfoldable pub bandRows : ℕ → ℕ → ℕ → List Filter → List Float → List Float
 bandRows f zero k fs rows = []
-bandRows f (suc n) k fs rows = runOut (getD fs k noFilter) (take f rows) ++ bandRows f n (k + 3) fs (drop f rows)
+bandRows f (suc n) k fs rows = runOut (getD fs k noFilter) (take f rows) ++ bandRows f n (k + bandsLen) fs (drop f rows)
 
 -- the three filters from k on
 abbrev pub three : ℕ → List Filter → Bands
@@ -43,7 +44,7 @@ threeOf b = b .f0 ∷ b .f1 ∷ b .f2 ∷ []
 -- R4.7: the filters after their rows, three a line
 unfoldable pub bandEnds : ℕ → ℕ → ℕ → List Filter → List Float → List Filter
 bandEnds f zero k fs rows = []
-bandEnds f (suc n) k fs rows = threeOf (bandsEnd (three k fs) (take f rows)) ++ bandEnds f n (k + 3) fs (drop f rows)
+bandEnds f (suc n) k fs rows = threeOf (bandsEnd (three k fs) (take f rows)) ++ bandEnds f n (k + bandsLen) fs (drop f rows)
 
 -- one row added to another, sample by sample
 abbrev pub plus : List Float → List Float → List Float

@@ -93,13 +93,23 @@ RowsBegin = (f : ℕ) → placesOf (wall .lines) f ≡ record { reads = f; mixed
 abbrev pub AmongPasses : Type 0
 AmongPasses = map (λ (k : ℕ). total (take k (wall .passLengths))) (0 ∷ 1 ∷ 2 ∷ 3 ∷ []) ≡ 0 ∷ 225 ∷ 566 ∷ 907 ∷ []
 
--- R1.15: three band filters a line, and three of the tone
-abbrev pub filtersLen : Model → ℕ
-filtersLen m = 3 * m .lines + 3
+-- R1.15: the band filters of a line. The tone has as many
+abbrev pub bandsLen : ℕ
+bandsLen = 3
 
--- R1.16: five a filter
+-- where those of line i begin. Behind the lines' are the tone's
+abbrev pub filterAt : ℕ → ℕ
+filterAt i = bandsLen * i
+
+abbrev pub filtersLen : Model → ℕ
+filtersLen m = filterAt (m .lines) + bandsLen
+
+-- R1.16: the coefficients of a filter, and of all
+abbrev pub perFilter : ℕ
+perFilter = 5
+
 abbrev pub coefficientsLen : Model → ℕ
-coefficientsLen m = 5 * filtersLen m
+coefficientsLen m = perFilter * filtersLen m
 
 -- R5.1: the jobs of a frame, a read and a line job for each line, the mix and the output
 abbrev pub jobsLen : Model → ℕ
