@@ -17,12 +17,13 @@ use Rattle.iir.specs.Runs.{bandsOut, bandsEnd}
 use Rattle.hadamard.specs.Rows.{mixedRows}
 use Rattle.unit.specs.UnitState.{UnitState}
 use Rattle.unit.specs.Layout.{Model, lengths, allpassIn, jobsLen, mixMark, lineMark, outputMark}
+use Rattle.unit.specs.Room.{passesWith}
 use Rattle.stages.specs.Lines.{noFilter, three, threeOf, plus}
 use Rattle.stages.specs.Frame.{Frame, OutputRow, frameIn, lineRows, newFilters}
 use Rattle.judges.specs.Marks.{allDone}
 use Rattle.rows.specs.Rows.{Rows, rowsOf, joinedRows}
 use Rattle.rows.specs.Parts.{lineIn, lineLaid, lineEnds}
-use Rattle.outputs.specs.Parts.{outputIn, outputLaid, outputEnds}
+use Rattle.outputs.specs.Steps.{outputIn, outputLaid, outputEnds}
 use Rattle.machine.specs.Jobs.{openLaid, readRow, readWork, mixLaid, lineJob, outputJob, jobWork, jobFilters}
 use Rattle.demands.proofs.LineRings.{read-row}
 use Rattle.samples.proofs.Stacked.{stacked, stacked-same, length-stacked, stacked-rows, stacked-all, row-stacked, row-of, set-stacked, set-of, over-end}
@@ -37,7 +38,7 @@ abbrev lineRow : UnitState → ℕ → Rows → List Float
 lineRow u i r = lineIn (u .settings .frame) i (u .held .tail) (u .filters) r
 
 abbrev outputOf : Model → UnitState → Rows → OutputRow
-outputOf m u r = outputIn m (u .settings .frame) (u .cursors .passes) (u .filters) r
+outputOf m u r = outputIn (m .lines) (u .settings .frame) (m .divisor) (passesWith m (u .cursors .passes)) (u .filters) r
 
 module _ (m : Model) (o : Opening) (h : Fit m o) (marks : List Bool) where
   abbrev n : ℕ

@@ -32,7 +32,7 @@ use Rattle.stages.specs.Settle.{moved}
 use Rattle.stages.proofs.Within.{cursors-moved}
 use Rattle.stages.proofs.RowLaws.{length-filtersOf, length-bandEnds}
 use Rattle.rows.specs.Parts.{lineEnds}
-use Rattle.outputs.specs.Parts.{outputEnds}
+use Rattle.outputs.specs.Steps.{outputEnds}
 use Rattle.machine.specs.Ending.{Memory, Ending}
 use Rattle.machine.specs.Whole.{counted, Play, apply, tail, filtersFor, frameFor}
 use Rattle.machine.specs.Jobs.{Job, readJob, mixJob, lineJob, outputJob, jobFilters, unitShut}

@@ -6,12 +6,12 @@ use Prim.Native.Nat.{ℕ, _+_, _*_, _-_, _<_, _≤_}
 use native.Mathlib.Nat.{add-zero}
 use native.Mathlib.Omega.{arith}
 use lib.Ieee.{Float}
-use lib.ListN.{length, getD, take, drop, length-append, length-take, length-drop}
+use lib.ListN.{length, getD, take, drop, length-append, length-drop}
 use lib.Seq.{take-at, take-take, take-add, getD-drop, getD-append-add, drop-at, drop-drop, length-take-le}
 use borrow.Rule.Slice.PartMut.{putMid}
 use Rattle.samples.specs.Lists.{over}
 use Rattle.samples.proofs.Turns.{back}
-use Rattle.samples.proofs.Lists.{drop-two, part-long, lent-long, first-part, last-part, to-end, over-at}
+use Rattle.samples.proofs.Lists.{part-long, lent-long, first-part, to-end, over-at}
 use Rattle.delay.specs.declared.Cursors.{Cursors}
 use Rattle.unit.specs.declared.Rings.{Rings}
 use Rattle.unit.specs.declared.layout.Places.{Places}
@@ -22,12 +22,13 @@ use Rattle.stages.specs.Frame.{lineRows, outputRow, newFilters, readsOf, frameI
 use Rattle.stages.specs.Steps.{copied}
 use Rattle.stages.proofs.RowLaws.{copied-all}
 use Rattle.stages.proofs.FrameLaws.{put-beside}
-use Rattle.rows.specs.Rows.{joinedRows}
+use Rattle.rows.specs.Rows.{Rows, rowsOf, joinedRows, laid}
 use Rattle.rows.specs.Fits.{outputFits}
 use Rattle.rows.specs.Steps.{linesEnds, linesLaid}
 use Rattle.rows.proofs.RowFits.{lines-yes, output-yes}
 use Rattle.rows.proofs.RowJoins.{filters-long}
-use Rattle.outputs.specs.Steps.{outputFrom, outputMade, outputAfter}
+use Rattle.rows.proofs.Joined.{cut-joined}
+use Rattle.outputs.specs.Steps.{outputIn, outputLaid, outputEnds, outputMade, outputAfter}
 use Rattle.frame.specs.Steps.{rowsIn}
 use Rattle.frame.specs.Workers.{FrameFits}
 
@@ -53,27 +54,15 @@ module _ (n : ℕ) (lines fs : List Filter) (l : length lines ≡ 3 * n) where
     unfolding outputRow
     tone-long rings reads = refl
 
-    -- after the input lie the rows read, those to put, the output row as it was, and the rings
-    tone-join : (gs hs : List Filter) (w x input reads put old rings : List Float)
-        → length input ≡ f → length reads ≡ n * f → length put ≡ n * f → length old ≡ f → w ≡ input ++ ((reads ++ put) ++ (old ++ rings))
-        → let p = take (length w - f) (drop f w) in
-        let s = outputRow n f d ps qs gs (drop (n * f + n * f + f) p) (take (n * f) p) in
-        let r = outputRow n f d ps qs fs rings reads in
-        gs ≡ between → (hs ≡ over (3 * n) (s .filters) gs) × (x ≡ take (n * f + n * f) p ++ (s .out ++ s .rings))
-        → (hs ≡ (lines ++ r .filters) ++ drop (3 * n + 3) fs) × (putMid f (length w - f) w x ≡ input ++ (reads ++ (put ++ (r .out ++ r .rings))))
-    tone-join gs hs w x input reads put old rings li lr lp lo ew eg e =
-        let m = n * f in
-        let rows = (reads ++ put) ++ (old ++ rings) in
-        let r = outputRow n f d ps qs fs rings reads in
-        let l₂ : length (reads ++ put) ≡ m + m = rw length-append (omega arith) in
-        let q = last-part f input rows w ew li in
-        let read : take m rows ≡ reads = rw append-assoc (take-at reads (put ++ (old ++ rings)) m lr) in
-        let two : take (m + m) rows ≡ reads ++ put = take-at (reads ++ put) (old ++ rings) (m + m) l₂ in
-        let left : drop (m + m + f) rows ≡ rings = drop-two (reads ++ put) old rings (m + m + f) (omega (arith, l₂, lo)) in
-        let same = output-same rings reads in (
-          e .0 ∙ rw (q .0, read, left, eg, same) (filters-join (r .filters) (tone-long rings reads)),
-          q .1 x ∙ rw (e .1, q .0, read, two, left, eg, same, append-assoc) refl,
-        )
+    -- step 5 of a work memory with these rows
+    tone-join : (gs hs : List Filter) (x : List Float) (r : Rows)
+        → let s = outputRow n f d ps qs gs (r .rings) (r .reads) in
+        let o = outputRow n f d ps qs fs (r .rings) (r .reads) in
+        gs ≡ between → (hs ≡ over (3 * n) (s .filters) gs) × (x ≡ laid (r .input) (r .reads) (r .mixed) (s .out) (s .rings))
+        → (hs ≡ (lines ++ o .filters) ++ drop (3 * n + 3) fs) × (x ≡ laid (r .input) (r .reads) (r .mixed) (o .out) (o .rings))
+    tone-join gs hs x r eg e =
+        let same = output-same (r .rings) (r .reads) in
+        (e .0 ∙ rw (eg, same) (filters-join _ (tone-long (r .rings) (r .reads))), e .1 ∙ rw (eg, same) refl)
 
 -- ---- the rows read, over the first of those after the input, and then steps 3 and 4
 
@@ -106,14 +95,15 @@ module _ (n f : ℕ) (k : Float) (tail : Bool) (fs : List Filter) (rows reads : 
   pub lines-join : {p : Places} → p ≡ placesOf n f → LinesJoin n f k tail fs rows reads p
   lines-join e = subst (LinesJoin n f k tail fs rows reads) (sym e) lines-joined
 
--- ---- step 5 on rows that fit
+-- ---- step 5 on memory that fits
 
-output-done : (n f : ℕ) (d : Float) (v : Rings) (gs hs : List Filter) (p x : List Float) → outputFits n f (v .passes .lengths) (length p) ≡ true
-    → let s = outputFrom n f d (v .passes) gs p in
-    (hs ≡ outputAfter n f d v gs p) × (x ≡ outputMade n f d v gs p)
-    → (hs ≡ over (3 * n) (s .filters) gs) × (x ≡ take (n * f + n * f) p ++ (s .out ++ s .rings))
-unfolding outputAfter outputMade
-output-done n f d v gs hs p x e q = rw e at q
+output-done : (n f : ℕ) (d : Float) (v : Rings) (gs hs : List Filter) (w x : List Float) (r : Rows) → outputFits n f (v .passes .lengths) (length w) ≡ true
+    → rowsOf n f w ≡ r
+    → let s = outputIn n f d (v .passes) gs r in
+    (hs ≡ outputAfter n f d v gs w) × (x ≡ outputMade n f d v gs w)
+    → (hs ≡ over (3 * n) (s .filters) gs) × (x ≡ laid (r .input) (r .reads) (r .mixed) (s .out) (s .rings))
+unfolding outputEnds outputLaid
+output-done n f d v gs hs w x r room cut q = rw (room, cut) at q
 
 -- ---- a whole frame
 
@@ -136,14 +126,13 @@ FrameJoin n f k d tail v fs store work p =
     let w = putMid (p .rings) (length work - p .rings) work x in
     let q = take (p .output - 0) (drop 0 w) in
     let w₁ = putMid 0 (p .output - 0) w x₁ in
-    let o = take (length w₁ - p .reads) (drop (p .reads) w₁) in
     let r = frameIn n f k d tail v fs (take f work) store in
     let reads = readsOf n f v store in
     let lines = lineRows n f k tail fs (take f q) reads in
     x ≡ copied (take (length store - a) (drop a store)) (take (length work - p .rings) (drop (p .rings) work))
     → length x₁ ≡ length q → (gs ≡ lines .filters ++ drop (3 * n) fs) × (x₁ ≡ take f q ++ (reads ++ lines .put))
-    → (hs ≡ outputAfter n f d v gs o) × (x₂ ≡ outputMade n f d v gs o)
-    → (hs ≡ newFilters r ++ drop (3 * n + 3) fs) × (putMid (p .reads) (length w₁ - p .reads) w₁ x₂ ≡ joinedRows (rowsIn (take f work) r))
+    → (hs ≡ outputAfter n f d v gs w₁) × (x₂ ≡ outputMade n f d v gs w₁)
+    → (hs ≡ newFilters r ++ drop (3 * n + 3) fs) × (x₂ ≡ joinedRows (rowsIn (take f work) r))
 
 module _ (n f : ℕ) (k d : Float) (tail : Bool) (v : Rings) (fs : List Filter) (store work : List Float) (fits : FrameFits n f v (length store) (length work)) where
   frame-joined : FrameJoin n f k d tail v fs store work (placesOf n f)
@@ -171,10 +160,12 @@ module _ (n f : ℕ) (k d : Float) (tail : Bool) (v : Rings) (fs : List Filter) 
       let lr : length reads ≡ n * f = omega (arith, kept ∙ ap length (q .0) ∙ la, simp length-append at (ap length x₁-is)) in
       let w₁ = putMid 0 (at - 0) (putMid (at + f) (length work - (at + f)) work x) x₁ in
       let lw₁ : length w₁ ≡ length work = ap length (q .1 x₁) ∙ simp (length-append, length-drop) (omega (arith, kept ∙ ap length (q .0) ∙ la, lo, fits .store-is)) in
-      let lent : length (take (length w₁ - f) (drop f w₁)) ≡ n * f + n * f + f + total ps = simp (length-take, length-drop) (omega (arith, lw₁, fits .work-is)) in
-      let fits-on = output-yes n f ps _ (fits .some) (fits .few) (fits .small) (fits .fours) lent in
-      tone-join n (lines .filters) fs (filters-long n f k tail fs input reads) f d ps qs gs hs _ x₂ input reads (lines .put) old rings li lr lp lo
-      (q .1 x₁ ∙ rw x₁-is (simp append-assoc)) (e₁ .0 ∙ rw first refl) (output-done n f d v gs hs _ x₂ fits-on e₂)
+      let made : Rows = record { input = input; reads = reads; mixed = lines .put; output = old; rings = rings } in
+      let cut : rowsOf n f w₁ ≡ made =
+      ap (rowsOf n f) (q .1 x₁ ∙ rw x₁-is (simp append-assoc)) ∙ cut-joined n f made (record { input = li; reads = lr; mixed = lp; output = lo }) in
+      let yes = output-yes n f ps _ (fits .some) (fits .few) (fits .small) (fits .fours) (lw₁ ∙ fits .work-is) in
+      tone-join n (lines .filters) fs (filters-long n f k tail fs input reads) f d ps qs gs hs x₂ made (e₁ .0 ∙ rw first refl)
+      (output-done n f d v gs hs _ x₂ made yes cut e₂)
 
   pub frame-join : {p : Places} → p ≡ placesOf n f → FrameJoin n f k d tail v fs store work p
   frame-join e = subst (FrameJoin n f k d tail v fs store work) (sym e) frame-joined

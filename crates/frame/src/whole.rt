@@ -72,13 +72,12 @@ pub(crate) fn frame_rows(
     ensures { λ _. ⌜ now (work .exit) ≡ joinedRows (rowsIn (take f (now (work .entry))) (frameIn n f factor divisor tail rings fs (take f (now (work .entry))) (now (store .entry)))) ⌝ }
 {
     let p = work_places(n, f);
-    let reads = p.reads;
     let output = p.output;
     let last = p.rings;
     let a = store.len() - (work.len() - last);
     stages::copy(&store[a..], &mut work[last..]);
     let gs = play_lines(n, f, factor, tail, rings, fs, store, &mut work[0..output]);
-    output_row(n, f, divisor, rings, gs, &mut work[reads..])
+    output_row(n, f, divisor, rings, gs, work)
 }
 
 // Whether all that a frame would keep or hand out is finite: the filters, and the work memory from

@@ -22,7 +22,7 @@ use Rattle.iir.specs.declared.Filter.{Filter}
 use Rattle.unit.specs.UnitState.{UnitState}
 use Rattle.unit.specs.Layout.{wall, lengths, storeLen}
 use Rattle.unit.specs.Range.{inRange, cursorsIn}
-use Rattle.unit.specs.Room.{unitRings, ringsHold}
+use Rattle.unit.specs.Room.{passesWith, unitRings, ringsHold}
 use Rattle.unit.proofs.Ranges.{lengths-long}
 use Rattle.judges.specs.Judges.{judged, workOk}
 use Rattle.rows.specs.Rows.{rowsOf, joinedRows}
@@ -30,7 +30,7 @@ use Rattle.rows.specs.Fits.{workFor}
 use Rattle.rows.specs.Workers.{WorkFits}
 use Rattle.rows.specs.Parts.{lineLaid, lineEnds}
 use Rattle.rows.proofs.RowsOf.{all-rows}
-use Rattle.outputs.specs.Parts.{outputLaid, outputEnds}
+use Rattle.outputs.specs.Steps.{outputLaid, outputEnds}
 use Rattle.rows.specs.Reads.{readLaid}
 use Rattle.rows.proofs.ReadLaid.{read-given}
 use Rattle.judges.proofs.Fits.{Due}
@@ -76,12 +76,12 @@ module _ (f : ℕ) (w : List Float) (h : WorkFits wall f (length w)) where
 -- ---- a job that was let by found room
 
 module _ (u : UnitState) (work : List Float) (room : Bool) (e : room ≡ true) where
-  pub output-work : (work′ : List Float) → work′ ≡ outputLaid wall (u .settings .frame) (u .cursors .passes) (u .filters) room work
-      → work′ ≡ outputLaid wall (u .settings .frame) (u .cursors .passes) (u .filters) true work
+  pub output-work : (work′ : List Float) → work′ ≡ outputLaid 16 (u .settings .frame) (wall .divisor) (passesWith wall (u .cursors .passes)) (u .filters) room work
+      → work′ ≡ outputLaid 16 (u .settings .frame) (wall .divisor) (passesWith wall (u .cursors .passes)) (u .filters) true work
   output-work work′ q = q ∙ rw e refl
 
-  pub output-ends : (gs : List Filter) → gs ≡ outputEnds wall (u .settings .frame) (u .cursors .passes) (u .filters) room work
-      → gs ≡ outputEnds wall (u .settings .frame) (u .cursors .passes) (u .filters) true work
+  pub output-ends : (gs : List Filter) → gs ≡ outputEnds 16 (u .settings .frame) (wall .divisor) (passesWith wall (u .cursors .passes)) (u .filters) room work
+      → gs ≡ outputEnds 16 (u .settings .frame) (wall .divisor) (passesWith wall (u .cursors .passes)) (u .filters) true work
   output-ends gs q = q ∙ rw e refl
 
   module _ (i : ℕ) where

@@ -17,13 +17,13 @@ use Rattle.hadamard.specs.Rows.{mixedRows}
 use Rattle.iir.specs.declared.Filter.{Filter}
 use Rattle.unit.specs.UnitState.{UnitState}
 use Rattle.unit.specs.Layout.{Model, lengths, stretch, allpassIn, jobsLen, mixMark, lineMark, outputMark}
-use Rattle.unit.specs.Room.{unitRings}
+use Rattle.unit.specs.Room.{passesWith, unitRings}
 use Rattle.unit.specs.Fresh.{noFrame}
 use Rattle.judges.specs.Turns.{judgedOpenApply, judgedOpenTail, judgedRead, judgedMix, judgedLine, judgedOutput, judgedClose, judgedAbandon}
 use Rattle.stages.specs.Settle.{settled, moved}
 use Rattle.rows.specs.Rows.{Rows, rowsOf, laid}
 use Rattle.rows.specs.Parts.{lineLaid, lineEnds}
-use Rattle.outputs.specs.Parts.{outputLaid, outputEnds}
+use Rattle.outputs.specs.Steps.{outputLaid, outputEnds}
 use Rattle.frame.specs.Parts.{rowsFinite}
 use Rattle.machine.specs.Ending.{Memory, Ending, refused, quietly, cleared}
 use Rattle.machine.specs.Whole.{Play, apply, tail, isTail, filtersFor, inputFor, countFor}
@@ -106,14 +106,16 @@ abbrev pub jobWork : Model → Memory → Job → List Float
 jobWork m w (readJob i) = readWork m (w .unit) i (w .store) (w .work)
 jobWork m w mixJob = mixLaid m (w .unit .settings .frame) (w .work)
 jobWork m w (lineJob i) = lineLaid m (w .unit .settings .frame) i (w .unit .held .tail) (w .unit .filters) true (w .work)
-jobWork m w outputJob = outputLaid m (w .unit .settings .frame) (w .unit .cursors .passes) (w .unit .filters) true (w .work)
+jobWork m w outputJob =
+    outputLaid (m .lines) (w .unit .settings .frame) (m .divisor) (passesWith m (w .unit .cursors .passes)) (w .unit .filters) true (w .work)
 
 -- R5.13, R5.14: the filters after a job, which are new for line i its three, and for the output the tone's three
 abbrev pub jobFilters : Model → Memory → Job → List Filter
 jobFilters m w (readJob i) = w .unit .filters
 jobFilters m w mixJob = w .unit .filters
 jobFilters m w (lineJob i) = lineEnds m (w .unit .settings .frame) i (w .unit .filters) true (w .work)
-jobFilters m w outputJob = outputEnds m (w .unit .settings .frame) (w .unit .cursors .passes) (w .unit .filters) true (w .work)
+jobFilters m w outputJob =
+    outputEnds (m .lines) (w .unit .settings .frame) (m .divisor) (passesWith m (w .unit .cursors .passes)) (w .unit .filters) true (w .work)
 
 -- R5.16, R5.17: the unit with the job of mark k done, and its filters then
 abbrev pub unitMarked : UnitState → ℕ → List Filter → UnitState

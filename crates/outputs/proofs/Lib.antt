@@ -1,3 +1,2 @@
 pub mod SumTurns
 pub mod OutputJoins
-pub mod OutputLaid

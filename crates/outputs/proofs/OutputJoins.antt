@@ -1,19 +1,21 @@
 -- How the steps of the output join: what each is lent, what comes back, and what all of it is then. Assumes nothing.
-use mathlib.Core.Path.{_≡_, refl, sym, ap, _∙_}
+use mathlib.Core.Path.{_≡_, refl, sym, ap, subst, _∙_}
+use mathlib.Core.Bool.{true, false}
 use mathlib.Core.List.{List, [], _++_, append-nil, append-assoc}
 use Prim.Native.Nat.{ℕ, suc, _+_, _*_, _-_, _/_, _%_, _≤_}
 use native.Mathlib.Omega.{arith}
 use lib.Ieee.{Float}
 use lib.ListN.{length, getD, take, drop, replicate, length-append, length-drop, take-append-drop}
-use lib.Seq.{take-at, take-take, drop-at, take-all, drop-length, length-take-le}
+use lib.Seq.{take-at, drop-at, take-all, drop-length, length-take-le}
 use borrow.Rule.Slice.PartMut.{putMid}
 use Rattle.samples.specs.Binary32.{+0}
 use Rattle.samples.specs.Lists.{over}
 use Rattle.samples.proofs.Turns.{middle}
-use Rattle.samples.proofs.Lists.{cut, part-long, last-part, first-of}
+use Rattle.samples.proofs.Lists.{cut, part-long, last-part}
 use Rattle.delay.specs.Calls.{both}
 use Rattle.unit.specs.declared.AllpassRings.{AllpassRings}
-use Rattle.unit.specs.Layout.{total, stretch}
+use Rattle.unit.specs.declared.layout.Places.{Places}
+use Rattle.unit.specs.Layout.{total, stretch, placesOf}
 use Rattle.iir.specs.declared.Filter.{Filter}
 use Rattle.iir.specs.Runs.{bandsOut, bandsEnd}
 use Rattle.stages.specs.Lines.{three, threeOf, sumRows}
@@ -21,19 +23,30 @@ use Rattle.stages.specs.Frame.{stageAt, outputRow}
 use Rattle.allpass.specs.Passes.{Stage, passOut, passEnd}
 use Rattle.allpass.specs.Stages.{staged}
 use Rattle.stages.specs.Steps.{divided}
+use Rattle.rows.specs.Rows.{rowsOf, joinedRows}
+use Rattle.rows.proofs.RowsOf.{all-rows}
+use Rattle.outputs.specs.Steps.{outputLaid, outputEnds}
 use Rattle.outputs.specs.Workers.{bothPassed}
 use Rattle.allpass.proofs.Stages.{length-passOut, pass-rings, staged-laid}
 use Rattle.unit.proofs.Totals.{total-next, total-front}
 
+-- ---- where there is no room all is as it was
+
+pub no-output : (n f : ℕ) (d : Float) (p : AllpassRings) (fs : List Filter) (work : List Float)
+    → (fs ≡ outputEnds n f d p fs false work) × (work ≡ outputLaid n f d p fs false work)
+unfolding outputEnds outputLaid
+no-output n f d p fs work = (refl, refl)
+
 -- ---- the sum of the rows read, after all rows, divided
 
-pub mean-join : (n f at : ℕ) (d : Float) (rows w x : List Float) → length rows ≡ n * f + n * f + f → at ≡ n * f + n * f
-    → let sum = sumRows f n (replicate f +0) (take (n * f) rows) in
-    w ≡ take (n * f + n * f) rows ++ sum → x ≡ divided d (take (length w - at) (drop at w))
-    → putMid at (length w - at) w x ≡ take (n * f + n * f) rows ++ divided d sum
-mean-join n f at d rows w x l e ew ex =
-    let q = last-part at (take at rows) (sumRows f n (replicate f +0) (take (n * f) rows)) w (rw e ew) (length-take-le at rows (omega arith)) in
-    q .1 x ∙ rw (ex, q .0, e) refl
+pub mean-join : (n f : ℕ) (d : Float) (rows w x : List Float) → n * f + f ≤ length rows
+    → let at = length rows - f in
+    let sum = sumRows f n (replicate f +0) (take (n * f) rows) in
+    w ≡ take at rows ++ sum → x ≡ divided d (take (length w - at) (drop at w)) → putMid at (length w - at) w x ≡ take at rows ++ divided d sum
+mean-join n f d rows w x l ew ex =
+    let at = length rows - f in
+    let q = last-part at (take at rows) (sumRows f n (replicate f +0) (take (n * f) rows)) w ew (length-take-le at rows (omega arith)) in
+    q .1 x ∙ rw (ex, q .0) refl
 
 -- ---- the allpass rings: four stretches, of the lengths ps
 
@@ -88,46 +101,60 @@ passes-join f v w w₁ w₂ fours four l e₁ e₂ =
     let w₁-is : w₁ ≡ out ++ ((e .x ++ e .y) ++ (t .x ++ (t .y ++ []))) = e₁ ∙ rw (append-nil, append-assoc) (rw (← whole) at one) in
     e₂ ∙ rw (w₁-is, two, append-nil, append-assoc) refl
 
--- ---- n rows read, n mixed, the output and the rings: the mean, both stages, and the tone's filters
+-- ---- a work memory: the mean, both stages, and the tone's filters
 
--- what comes of it where the output begins at `at` and ends at e
-abbrev OutputJoin : ℕ → ℕ → Float → AllpassRings → List Filter → List Float → ℕ → ℕ → Type 0
-OutputJoin n f d v fs w at e =
+-- what comes of it where the parts of the work memory lie at the places p
+abbrev OutputJoin : ℕ → ℕ → Float → AllpassRings → List Filter → List Float → Places → Type 0
+OutputJoin n f d v fs w p =
     (gs : List Filter) (x x₂ x₃ : List Float)
     → let k = 3 * n in
-    let q = take (e - 0) (drop 0 w) in
-    let w₁ = putMid 0 (e - 0) w x in
-    let p = take (length w₁ - at) (drop at w₁) in
-    let w₂ = putMid at (length w₁ - at) w₁ x₂ in
-    let row = take (e - at) (drop at w₂) in
-    let r = outputRow n f d (v .lengths) (v .cursors) fs (drop (n * f + n * f + f) w) (take (n * f) w) in
-    length x ≡ length q → x ≡ take (n * f + n * f) q ++ divided d (sumRows f n (replicate f +0) (take (n * f) q))
-    → x₂ ≡ bothPassed f v (drop f p) (take f p)
+    let q = take (p .rings - p .reads) (drop (p .reads) w) in
+    let w₁ = putMid (p .reads) (p .rings - p .reads) w x in
+    let s = take (length w₁ - p .output) (drop (p .output) w₁) in
+    let w₂ = putMid (p .output) (length w₁ - p .output) w₁ x₂ in
+    let row = take (p .rings - p .output) (drop (p .output) w₂) in
+    length x ≡ length q → x ≡ take (length q - f) q ++ divided d (sumRows f n (replicate f +0) (take (n * f) q))
+    → x₂ ≡ bothPassed f v (drop f s) (take f s)
     → (gs ≡ over k (threeOf (bandsEnd (three k fs) row)) fs) × (x₃ ≡ bandsOut (three k fs) row)
-    → (gs ≡ over k (r .filters) fs) × (putMid at (e - at) w₂ x₃ ≡ take (n * f + n * f) w ++ (r .out ++ r .rings))
+    → (gs ≡ outputEnds n f d v fs true w) × (putMid (p .output) (p .rings - p .output) w₂ x₃ ≡ outputLaid n f d v fs true w)
 
-module _ (n f : ℕ) (d : Float) (v : AllpassRings) (fs : List Filter) (w : List Float) (fours : f % 4 ≡ 0) (l : length w ≡ n * f + n * f + f + total (v .lengths)) where
-  joined : OutputJoin n f d v fs w (n * f + n * f) (n * f + n * f + f)
-  unfolding outputRow bandsOut
+module _ (n f : ℕ) (d : Float) (v : AllpassRings) (fs : List Filter) (w : List Float)
+    (fours : f % 4 ≡ 0) (l : length w ≡ placesOf n f .rings + total (v .lengths)) where
+  joined : OutputJoin n f d v fs w (placesOf n f)
+  unfolding outputEnds outputLaid rowsOf joinedRows outputRow bandsOut
   joined gs x x₂ x₃ kept ex e₂ e₃ =
       let ps = v .lengths in
       let qs = v .cursors in
       let m = n * f in
-      let at = m + m in
-      let front : List Float = take at w in
+      let at = f + m + m in
+      let input : List Float = take f w in
+      let reads : List Float = take m (drop f w) in
+      let mixed : List Float = take m (drop (f + m) w) in
+      let old : List Float = take f (drop at w) in
       let rings : List Float = drop (at + f) w in
-      let mean : List Float = divided d (sumRows f n (replicate f +0) (take m w)) in
-      let r = outputRow n f d ps qs fs rings (take m w) in
-      let q = first-of (at + f) w (omega arith) in
-      let lf : length front ≡ at = length-take-le at w (omega arith) in
-      let ex′ : x ≡ front ++ mean = ex ∙ rw (q .0, take-take at (at + f) w (omega arith), take-take m (at + f) w (omega arith)) refl in
-      let lx : length x ≡ at + f = kept ∙ ap length (q .0) ∙ length-take-le (at + f) w (omega arith) in
-      let lm : length mean ≡ f = omega (arith, ap length ex′ ∙ length-append front mean) in
-      let p = last-part at front (mean ++ rings) _ (q .1 x ∙ rw (ex′, append-assoc) refl) lf in
-      let e₂′ : x₂ ≡ r .pass1 ++ r .rings = e₂ ∙ rw (p .0, take-at mean rings f lm, drop-at mean rings f lm) refl in
-      let lo : length (r .pass1) ≡ at + f - at = omega (arith, length-passOut (f / 4) (stageAt ps qs rings 2) (r .pass0)) in
-      let row = middle at (at + f) front (r .pass1) (r .rings) _ (p .1 x₂ ∙ rw e₂′ refl) lf lo in
-      (e₃ .0 ∙ rw (row .0) refl, row .1 x₃ ∙ rw (e₃ .1, row .0) refl)
+      let front : List Float = input ++ (reads ++ mixed) in
+      let mean : List Float = divided d (sumRows f n (replicate f +0) reads) in
+      let r = outputRow n f d ps qs fs rings reads in
+      let li : length input ≡ f = length-take-le f w (omega arith) in
+      let lr : length reads ≡ m = part-long f w m (omega arith) in
+      let lm : length mixed ≡ m = part-long (f + m) w m (omega arith) in
+      let lo : length old ≡ f = part-long at w f (omega arith) in
+      let lb : length (reads ++ mixed) ≡ m + m = rw length-append (omega arith) in
+      let lf : length front ≡ at = rw length-append (omega arith) in
+      let lq : length ((reads ++ mixed) ++ old) ≡ at + f - f = rw length-append (omega arith) in
+      let all : w ≡ input ++ (((reads ++ mixed) ++ old) ++ rings) = all-rows n f w ∙ rw (append-assoc, append-assoc) refl in
+      let q = middle f (at + f) input ((reads ++ mixed) ++ old) rings w all li lq in
+      let both : take (length ((reads ++ mixed) ++ old) - f) ((reads ++ mixed) ++ old) ≡ reads ++ mixed =
+      take-at (reads ++ mixed) old (length ((reads ++ mixed) ++ old) - f) (omega (arith, lb, lq)) in
+      let first : take m ((reads ++ mixed) ++ old) ≡ reads = rw append-assoc (take-at reads (mixed ++ old) m lr) in
+      let ex′ : x ≡ (reads ++ mixed) ++ mean = ex ∙ rw (q .0, both, first) refl in
+      let lx : length x ≡ at + f - f = kept ∙ ap length (q .0) ∙ lq in
+      let le : length mean ≡ f = omega (arith, lb, ap length ex′ ∙ length-append (reads ++ mixed) mean) in
+      let p = last-part at front (mean ++ rings) _ (q .1 x ∙ rw ex′ (simp append-assoc)) lf in
+      let e₂′ : x₂ ≡ r .pass1 ++ r .rings = e₂ ∙ rw (p .0, take-at mean rings f le, drop-at mean rings f le) refl in
+      let lp : length (r .pass1) ≡ at + f - at = omega (arith, length-passOut (f / 4) (stageAt ps qs rings 2) (r .pass0)) in
+      let row = middle at (at + f) front (r .pass1) (r .rings) _ (p .1 x₂ ∙ rw e₂′ refl) lf lp in
+      (e₃ .0 ∙ rw (row .0) refl, row .1 x₃ ∙ rw (e₃ .1, row .0, append-assoc, append-assoc) refl)
 
-  pub output-join : {at e : ℕ} → at ≡ n * f + n * f → e ≡ n * f + n * f + f → OutputJoin n f d v fs w at e
-  output-join ea ee = rw (ea, ee) joined
+  pub output-join : {p : Places} → p ≡ placesOf n f → OutputJoin n f d v fs w p
+  output-join e = subst (OutputJoin n f d v fs w) (sym e) joined

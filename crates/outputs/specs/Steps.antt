@@ -1,27 +1,36 @@
--- What step 5 of n lines leaves of the rows lent and of the filters: where the rows don't fit, all is as it was (R3.37).
-use Prim.Native.Nat.{ℕ, _+_, _*_}
-use mathlib.Core.Bool.{cond}
-use mathlib.Core.List.{List, _++_}
+-- Step 5 of n lines in a work memory (R4.10 to R4.12, R5.14).
+use Prim.Native.Nat.{ℕ}
+use mathlib.Core.Bool.{Bool, cond}
+use mathlib.Core.List.{List}
 use lib.Ieee.{Float}
-use lib.ListN.{length, take, drop}
+use lib.ListN.{length}
 use Rattle.samples.specs.Lists.{over}
 use Rattle.iir.specs.declared.Filter.{Filter}
+use Rattle.unit.specs.Layout.{filterAt}
 use Rattle.unit.specs.declared.Rings.{Rings}
 use Rattle.unit.specs.declared.AllpassRings.{AllpassRings}
 use Rattle.stages.specs.Frame.{OutputRow, outputRow}
+use Rattle.rows.specs.Rows.{Rows, rowsOf, laid}
 use Rattle.rows.specs.Fits.{outputFits}
 
--- R4.10 to R4.12: step 5 from n rows read and the allpass rings p, whose floats lie after n mixed rows and the output
-abbrev pub outputFrom : ℕ → ℕ → Float → AllpassRings → List Filter → List Float → OutputRow
-outputFrom n f d p fs rows = outputRow n f d (p .lengths) (p .cursors) fs (drop (n * f + n * f + f) rows) (take (n * f) rows)
+-- R4.10 to R4.12, R5.15: step 5 from the rows read and the floats of the allpass rings p, the sum divided by d
+abbrev pub outputIn : ℕ → ℕ → Float → AllpassRings → List Filter → Rows → OutputRow
+outputIn n f d p fs r = outputRow n f d (p .lengths) (p .cursors) fs (r .rings) (r .reads)
 
--- the rows after it, where they fit
-unfoldable pub outputMade : ℕ → ℕ → Float → Rings → List Filter → List Float → List Float
-outputMade n f d r fs rows =
-    let x = outputFrom n f d (r .passes) fs rows in
-    cond (outputFits n f (r .passes .lengths) (length rows)) (take (n * f + n * f) rows ++ (x .out ++ x .rings)) rows
+-- R5.14, R5.17: the work memory after it, if there is `room` for such a frame: else all is as it was (R3.37)
+unfoldable pub outputLaid : ℕ → ℕ → Float → AllpassRings → List Filter → Bool → List Float → List Float
+outputLaid n f d p fs room work =
+    let r = rowsOf n f work in
+    let x = outputIn n f d p fs r in
+    cond room (laid (r .input) (r .reads) (r .mixed) (x .out) (x .rings)) work
 
--- and the filters
-unfoldable pub outputAfter : ℕ → ℕ → Float → Rings → List Filter → List Float → List Filter
-outputAfter n f d r fs rows =
-    cond (outputFits n f (r .passes .lengths) (length rows)) (over (3 * n) (outputFrom n f d (r .passes) fs rows .filters) fs) fs
+-- R5.14, R5.17: and the filters. The tone's three are those after the lines'
+unfoldable pub outputEnds : ℕ → ℕ → Float → AllpassRings → List Filter → Bool → List Float → List Filter
+outputEnds n f d p fs room work = cond room (over (filterAt n) (outputIn n f d p fs (rowsOf n f work) .filters) fs) fs
+
+-- both where the memory is judged by its length (R3.37)
+abbrev pub outputMade : ℕ → ℕ → Float → Rings → List Filter → List Float → List Float
+outputMade n f d r fs work = outputLaid n f d (r .passes) fs (outputFits n f (r .passes .lengths) (length work)) work
+
+abbrev pub outputAfter : ℕ → ℕ → Float → Rings → List Filter → List Float → List Filter
+outputAfter n f d r fs work = outputEnds n f d (r .passes) fs (outputFits n f (r .passes .lengths) (length work)) work

@@ -7,13 +7,12 @@ use unit::BANDS;
 use unit::FILTERS;
 use unit::work_places;
 ghost use mathlib.Core.Path.{_≡_};
-ghost use mathlib.Core.List.{_++_};
-ghost use Prim.Native.Nat.{_+_, _*_, _%_, _≤_};
+ghost use mathlib.Core.Bool.{true};
+ghost use Prim.Native.Nat.{_+_, _%_, _≤_};
 ghost use lib.ListN.{length, take, drop};
-ghost use Rattle.samples.specs.Lists.{over};
 ghost use Rattle.delay.specs.Calls.{longestRing};
-ghost use Rattle.unit.specs.Layout.{wall, total};
-ghost use Rattle.outputs.specs.Steps.{outputFrom};
+ghost use Rattle.unit.specs.Layout.{wall, total, placesOf};
+ghost use Rattle.outputs.specs.Steps.{outputLaid, outputEnds};
 ghost use Rattle.outputs.specs.Workers.{bothPassed};
 
 // Both allpass stages over a row, after which their four rings lie.
@@ -36,7 +35,7 @@ pub(crate) fn pass_both(f: usize, passes: AllpassRings, rows: &mut [f32])
     allpass::pass_stage(rows, f, at, mx, my, dx, dy);
 }
 
-// Step 5: `rows` are n rows read, n mixed, the output and the allpass rings. Gives the filters after
+// Step 5 of n lines on a work memory that is one of such rows and allpass rings. Gives the filters after
 // it.
 pub(crate) fn output_in(
     n: usize,
@@ -44,16 +43,17 @@ pub(crate) fn output_in(
     divisor: f32,
     passes: AllpassRings,
     fs: [Filter; FILTERS],
-    rows: &mut [f32],
+    work: &mut [f32],
 ) -> [Filter; FILTERS]
-    requires { ⌜ (n ≤ wall .lines) × (f ≤ longestRing) × (f % 4 ≡ 0) × (length (now rows) ≡ n * f + n * f + f + total (passes .lengths)) ⌝ }
-    ensures { λ r. ⌜ r ≡ over (3 * n) (outputFrom n f divisor passes fs (now (rows .entry)) .filters) fs ⌝ }
-    ensures { λ _. ⌜ now (rows .exit) ≡ take (n * f + n * f) (now (rows .entry)) ++ (outputFrom n f divisor passes fs (now (rows .entry)) .out ++ outputFrom n f divisor passes fs (now (rows .entry)) .rings) ⌝ }
+    requires { ⌜ (n ≤ wall .lines) × (f ≤ longestRing) × (f % 4 ≡ 0) × (length (now work) ≡ placesOf n f .rings + total (passes .lengths)) ⌝ }
+    ensures { λ r. ⌜ r ≡ outputEnds n f divisor passes fs true (now (work .entry)) ⌝ }
+    ensures { λ _. ⌜ now (work .exit) ≡ outputLaid n f divisor passes fs true (now (work .entry)) ⌝ }
 {
     let p = work_places(n, f);
-    let at = p.output - p.reads;
-    let e = p.rings - p.reads;
-    sum_row(n, f, divisor, &mut rows[0..e]);
-    pass_both(f, passes, &mut rows[at..]);
-    three_at(BANDS * n, fs, &mut rows[at..e])
+    let reads = p.reads;
+    let output = p.output;
+    let rings = p.rings;
+    sum_row(n, f, divisor, &mut work[reads..rings]);
+    pass_both(f, passes, &mut work[output..]);
+    three_at(BANDS * n, fs, &mut work[output..rings])
 }

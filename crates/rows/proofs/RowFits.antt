@@ -8,7 +8,7 @@ use native.Mathlib.Omega.{arith}
 use lib.Dec.{leb, eqb}
 use borrow.Author.Tests.{leb-true, le-leb, eqb-true, eqb-false, eq-eqb, ne-eqb}
 use Rattle.samples.proofs.Laws.{split-and}
-use Rattle.unit.specs.Layout.{total}
+use Rattle.unit.specs.Layout.{total, placesOf}
 use Rattle.rows.specs.Fits.{fewRows, linesFit, outputFits}
 
 -- ---- rows of few lines
@@ -48,29 +48,29 @@ lines-yes n f len some few small e = rw (few-yes n f some few small, eq-eqb len 
 -- ---- the rows of step 5
 
 pub output-of : (n f : ℕ) (ps : List ℕ) (len : ℕ) → outputFits n f ps len ≡ true
-    → (n ≤ 16) × (f ≤ 65536) × (f % 4 ≡ 0) × (len ≡ n * f + n * f + f + total ps)
+    → (n ≤ 16) × (f ≤ 65536) × (f % 4 ≡ 0) × (len ≡ placesOf n f .rings + total ps)
 unfolding outputFits
 output-of n f ps len e =
     let p = split-and (fewRows n f) _ e in
     let q = few-of n f (p .0) in
-    let r = split-and (eqb (f % 4) 0) (eqb len (n * f + n * f + f + total ps)) (p .1) in
-    (q .few, q .small, eqb-true (f % 4) 0 (r .0), eqb-true len (n * f + n * f + f + total ps) (r .1))
+    let r = split-and (eqb (f % 4) 0) (eqb len (placesOf n f .rings + total ps)) (p .1) in
+    (q .few, q .small, eqb-true (f % 4) 0 (r .0), eqb-true len (placesOf n f .rings + total ps) (r .1))
 
-pub output-yes : (n f : ℕ) (ps : List ℕ) (len : ℕ) → 0 < n → n ≤ 16 → f ≤ 65536 → f % 4 ≡ 0 → len ≡ n * f + n * f + f + total ps
+pub output-yes : (n f : ℕ) (ps : List ℕ) (len : ℕ) → 0 < n → n ≤ 16 → f ≤ 65536 → f % 4 ≡ 0 → len ≡ placesOf n f .rings + total ps
     → outputFits n f ps len ≡ true
 unfolding outputFits
 output-yes n f ps len some few small fours e =
-    rw (few-yes n f some few small, eq-eqb (f % 4) 0 fours, eq-eqb len (n * f + n * f + f + total ps) e) refl
+    rw (few-yes n f some few small, eq-eqb (f % 4) 0 fours, eq-eqb len (placesOf n f .rings + total ps) e) refl
 
 and-false : (b : Bool) → (b && false) ≡ false
 and-false true = refl
 and-false false = refl
 
 -- fewer than the rows
-pub output-short : (n f : ℕ) (ps : List ℕ) (len : ℕ) → len < n * f + n * f + f → outputFits n f ps len ≡ false
+pub output-short : (n f : ℕ) (ps : List ℕ) (len : ℕ) → len < placesOf n f .rings → outputFits n f ps len ≡ false
 unfolding outputFits
 output-short n f ps len h =
-    let no : eqb len (n * f + n * f + f + total ps) ≡ false = ne-eqb _ _ (λ (e : len ≡ n * f + n * f + f + total ps). omega arith) in
+    let no : eqb len (placesOf n f .rings + total ps) ≡ false = ne-eqb _ _ (λ (e : len ≡ placesOf n f .rings + total ps). omega arith) in
     rw (no, and-false (eqb (f % 4) 0)) (and-false (fewRows n f))
 
 -- what is left of len without k is b exactly if len is k and b
@@ -81,8 +81,8 @@ left-over len k b h = go (eqb (len - k) b) refl
     go true e = let l = eqb-true (len - k) b e in sym (eq-eqb len (k + b) (omega arith))
     go false e = let l = eqb-false (len - k) b e in sym (ne-eqb len (k + b) (λ (q : len ≡ k + b). l (omega arith)))
 
-pub output-long : (n f : ℕ) (ps : List ℕ) (len : ℕ) → n * f + n * f + f ≤ len → fewRows n f ≡ true
-    → (eqb (f % 4) 0 && eqb (len - (n * f + n * f + f)) (total ps)) ≡ outputFits n f ps len
+pub output-long : (n f : ℕ) (ps : List ℕ) (len : ℕ) → placesOf n f .rings ≤ len → fewRows n f ≡ true
+    → (eqb (f % 4) 0 && eqb (len - (placesOf n f .rings)) (total ps)) ≡ outputFits n f ps len
 unfolding outputFits
 output-long n f ps len h e =
-    rw e (ap (λ (b : Bool). eqb (f % 4) 0 && b) (left-over len (n * f + n * f + f) (total ps) h))
+    rw e (ap (λ (b : Bool). eqb (f % 4) 0 && b) (left-over len (placesOf n f .rings) (total ps) h))

@@ -29,7 +29,7 @@ pub(crate) fn lines_fit(n: usize, f: usize, len: usize) -> bool
     len == p.output
 }
 
-// Whole rows read, mixed and of the output, and the allpass rings (R3.37).
+// The input, whole rows read, mixed and of the output, and the allpass rings (R3.37).
 pub fn output_fits(n: usize, f: usize, ps: [usize; PASS_RINGS], len: usize) -> bool
     ensures { λ r. ⌜ r ≡ outputFits n f ps len ⌝ }
 {
@@ -37,7 +37,7 @@ pub fn output_fits(n: usize, f: usize, ps: [usize; PASS_RINGS], len: usize) -> b
         return false;
     }
     let p = work_places(n, f);
-    let rows = p.rings - p.reads;
+    let rows = p.rings;
     if len < rows {
         return false;
     }

@@ -2,8 +2,7 @@
 use borrow.Author.Tests.{le-leb}
 use mathlib.Core.Path.{_≡_, refl, ap, _∙_}
 use mathlib.Core.Bool.{_&&_, cond}
-use Prim.Native.Nat.{ℕ, _+_, _*_, _-_, _≤_}
-use native.Mathlib.Omega.{arith}
+use Prim.Native.Nat.{ℕ, _+_, _*_, _≤_}
 use lib.Dec.{leb}
 use Rattle.delay.specs.Calls.{longestRing}
 use Rattle.unit.specs.declared.layout.Places.{Places}
@@ -28,10 +27,3 @@ each n f e =
       output = ap (λ (p : Places). p .output) e;
       rings = ap (λ (p : Places). p .rings) e;
     }
-
--- counted from the rows read on
-pub output-after : (n f : ℕ) {p : Places} → p ≡ placesOf n f → p .output - p .reads ≡ n * f + n * f
-output-after n f e = rw e (omega arith)
-
-pub rings-after : (n f : ℕ) {p : Places} → p ≡ placesOf n f → p .rings - p .reads ≡ n * f + n * f + f
-rings-after n f e = rw e (omega arith)

@@ -6,17 +6,23 @@ use lib.Dec.{leb, eqb}
 use lib.ListN.{getD}
 use Rattle.samples.specs.Lists.{allFrom}
 use Rattle.samples.specs.Sizes.{frameOk}
+use Rattle.delay.specs.declared.Cursors.{Cursors}
 use Rattle.delay.specs.Calls.{longestRing}
+use Rattle.unit.specs.declared.AllpassRings.{AllpassRings}
 use Rattle.unit.specs.declared.Rings.{Rings}
 use Rattle.unit.specs.UnitState.{UnitState}
 use Rattle.unit.specs.Layout.{Model, lengths, storeLen, workLen}
 use Rattle.unit.specs.Range.{cursorsIn}
 
+-- the model's allpass rings at the cursors cs
+abbrev pub passesWith : Model → List Cursors → AllpassRings
+passesWith m cs = record { lengths = m .passLengths; cursors = cs }
+
 -- the rings of a unit, where those of its lines have the lengths ls; and as they are
 abbrev pub ringsWith : Model → UnitState → List ℕ → Rings
 ringsWith m u ls = record {
   lines = record { lengths = ls; cursors = u .cursors .lines };
-  passes = record { lengths = m .passLengths; cursors = u .cursors .passes };
+  passes = passesWith m (u .cursors .passes);
 }
 
 abbrev pub unitRings : Model → UnitState → Rings

@@ -1,28 +1,18 @@
 -- `outputs::make_output` meets its contract. Assumes nothing.
 use borrow.Author.Needs.{needs}
 use denote.Ref.{now}
-use mathlib.Core.Path.{_≡_, refl}
-use mathlib.Core.Bool.{false}
-use mathlib.Core.List.{List}
-use Prim.Native.Nat.{ℕ}
-use lib.Ieee.{Float}
-use Rattle.delay.specs.declared.Cursors.{Cursors}
-use Rattle.iir.specs.declared.Filter.{Filter}
 use Rattle.unit.specs.Layout.{wall}
-use Rattle.outputs.specs.Parts.{outputEnds, outputLaid}
+use Rattle.unit.specs.Room.{passesWith}
 use Rattle.rows.proofs.Ways.{shut, let-in}
 use Rattle.rows.proofs.RowsOf.{work-fits}
+use Rattle.outputs.proofs.OutputJoins.{no-output}
 use Rattle.outputs.proofs.make_output.Statement.{statement}
 use Rattle.outputs.proofs.make_output.Tie as tie
-
-nothing : (f : ℕ) (qs : List Cursors) (fs : List Filter) (work : List Float) → (fs ≡ outputEnds wall f qs fs false work) × (work ≡ outputLaid wall f qs fs false work)
-unfolding outputEnds outputLaid
-nothing f qs fs work = (refl, refl)
 
 returns : tie.Need-returns
 returns c =
     let a = c .before .before .before .args in
-    rw (shut _ _ (c .before .work-for .ensures) (c .if1 .taken)) (nothing (a .f) (a .qs) (a .fs) (now (a .work)))
+    rw (shut _ _ (c .before .work-for .ensures) (c .if1 .taken)) (no-output 16 (a .f) (wall .divisor) (passesWith wall (a .qs)) (a .fs) (now (a .work)))
 
 wall-output-requires : tie.Need-wall-output-requires
 wall-output-requires c κs =

@@ -52,10 +52,6 @@ frame-rows-spec =
     (λ c. search needs)
     (λ c. search (needs, spots (c .before .before .before .before .before)))
     play-lines-requires
-    (λ c. search (needs, spots (c .before .before .before .before .before .before .before .before .before)))
-    (λ c. search (needs, spots (c .before .before .before .before .before .before .before .before .before)))
-    (λ c. search (needs, spots (c .before .before .before .before .before .before .before .before .before)))
-    (λ c. search needs)
     (λ c κs. search needs)
     (λ c. search needs)
     returns)

@@ -2,12 +2,10 @@
 -- sums to the answer. Assumes nothing.
 use borrow.Author.Needs.{needs}
 use native.Mathlib.Omega.{arith}
-use mathlib.Core.Path.{_≡_, refl, ap, _∙_}
-use mathlib.Core.List.{_++_}
-use Prim.Native.Nat.{ℕ, _+_, _-_, _*_}
-use lib.ListN.{length, take, drop, replicate}
+use mathlib.Core.Path.{_≡_, refl, _∙_}
+use Prim.Native.Nat.{_+_, _-_, _*_}
+use lib.ListN.{length, take, drop}
 use denote.Ref.{now}
-use Rattle.samples.specs.Binary32.{+0}
 use Rattle.stages.specs.Lines.{sumRows}
 use Rattle.outputs.proofs.SumTurns.{Summing, cleared-long, sum-holds, sum-turn, sum-done, sum-of}
 use Rattle.outputs.proofs.sums.sum_lines.Statement.{statement}
@@ -44,11 +42,8 @@ returns c =
     let l = c .before .loop in
     let called = c .before .before .before .before in
     let s = called .before .before .before in
-    let rows = now (s .args .rows) in
-    let at : length rows - s .args .f ≡ s .args .n * s .args .f + s .args .n * s .args .f = omega (arith, s .pre) in
     sum-done (s .args .n) (s .args .f) _ _ _ (omega (arith, s .pre)) (l .counter) (l .b) (l .rows) (c .loop-test .left) (l .inv)
-    ∙ sum-of _ (s .args .f) rows _ (long s) (called .clear .ensures) (s .args .n) (omega (arith, s .pre))
-    ∙ ap (λ (k : ℕ). take k rows ++ sumRows (s .args .f) (s .args .n) (replicate (s .args .f) +0) (take (s .args .n * s .args .f) rows)) at
+    ∙ sum-of _ (s .args .f) (now (s .args .rows)) _ (long s) (called .clear .ensures) (s .args .n) (omega (arith, s .pre))
 
 pub sum-lines-spec : {M : Type 1} → statement M
 sum-lines-spec =

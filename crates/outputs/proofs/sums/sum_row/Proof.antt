@@ -1,5 +1,4 @@
 -- `outputs::sums::sum_row` meets its contract. Assumes nothing.
-use native.Mathlib.Omega.{arith}
 use borrow.Author.Needs.{needs}
 use denote.Ref.{now}
 use Rattle.outputs.proofs.OutputJoins.{mean-join}
@@ -12,7 +11,7 @@ returns c =
     let summed = divided .before .before .before .before in
     let s = summed .before .before .before in
     let a = s .args in
-    mean-join (a .n) (a .f) _ (a .divisor) (now (a .rows)) _ _ (s .pre) (omega (arith, s .pre)) (summed .sum-lines .ensures) (divided .divide .ensures)
+    mean-join (a .n) (a .f) (a .divisor) (now (a .rows)) _ _ (s .pre) (summed .sum-lines .ensures) (divided .divide .ensures)
 
 pub sum-row-spec : {M : Type 1} → statement M
 sum-row-spec =

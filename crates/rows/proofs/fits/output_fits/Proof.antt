@@ -1,5 +1,4 @@
 -- `rows::fits::output_fits` meets its contract. Assumes nothing.
-use native.Mathlib.Omega.{arith}
 use borrow.Author.Needs.{needs}
 use mathlib.Core.Path.{_≡_, refl, sym, _∙_}
 use mathlib.Core.Bool.{true, false, _&&_}
@@ -7,7 +6,7 @@ use mathlib.Core.List.{List}
 use Prim.Native.Nat.{ℕ, _%_}
 use lib.Dec.{eqb}
 use Rattle.unit.specs.Layout.{placesOf}
-use Rattle.unit.proofs.Places.{placed, rings-after}
+use Rattle.unit.proofs.Places.{placed}
 use Rattle.rows.specs.Fits.{fewRows, outputFits}
 use Rattle.rows.proofs.Ways.{shut, let-in}
 use Rattle.rows.proofs.RowFits.{few-of, output-short, output-long}
@@ -27,24 +26,20 @@ passed c = let-in _ _ (c .before .few-rows .ensures) (c .if1 .left)
 at : (c : tie.After-work-places) → c .work-places .result ≡ placesOf (c .before .before .before .args .n) (c .before .before .before .args .f)
 at c = let s = few-of _ _ (passed (c .before)) in placed _ _ (s .few) (s .small) (c .work-places .ensures)
 
-sub-rows : tie.Need-sub-rows
-sub-rows c = rw (at (c .before)) (omega arith)
-
 returns-2 : tie.Need-returns-2
 returns-2 c =
-    let called = c .before .before in
+    let called = c .before in
     let a = called .before .before .before .args in
-    sym (output-short (a .n) (a .f) (a .ps) (a .len) (rw (rings-after (a .n) (a .f) (at called)) at (c .if2 .taken)))
+    sym (output-short (a .n) (a .f) (a .ps) (a .len) (rw (at called) at (c .if2 .taken)))
 
 returns-3 : tie.Need-returns-3
 returns-3 c =
     let last = c .before .before in
-    let called = last .before .before in
+    let called = last .before in
     let a = called .before .before .before .args in
-    let rows = rings-after (a .n) (a .f) (at called) in
     c .and .ensures
     ∙ (λ i. eqb (a .f % 4) 0 && c .before .sum-to .ensures i)
-    ∙ rw rows (output-long (a .n) (a .f) (a .ps) (a .len) (rw rows at (last .if2 .left)) (passed (called .before)))
+    ∙ rw (at called) (output-long (a .n) (a .f) (a .ps) (a .len) (rw (at called) at (last .if2 .left)) (passed (called .before)))
 
 pub output-fits-spec : {M : Type 1} → statement M
 output-fits-spec =
@@ -53,7 +48,6 @@ output-fits-spec =
     (λ c κs. search needs)
     returns
     (λ c κs. search needs)
-    sub-rows
     returns-2
     (λ c κs. search needs)
     (λ c κs. search needs)
