@@ -1,8 +1,10 @@
 -- The wall unit's memory is laid out as R1.19 to R1.22 say. Assumes nothing.
 use native.Mathlib.Omega.{arith}
-use mathlib.Core.Path.{_≡_, refl}
-use Prim.Native.Nat.{ℕ, zero, suc, _+_, _*_, _<_}
-use Rattle.unit.specs.Layout.{lengthsFrom, total, storeLen, workLen, StoreIs, WorkIs, RingBegins, RingsBegin, PassesBegin, RowsBegin, AmongPasses}
+use native.Mathlib.Nat.{add-mul}
+use mathlib.Core.Path.{_≡_}
+use mathlib.Core.List.{[], _∷_}
+use Prim.Native.Nat.{ℕ, zero, suc, _<_}
+use Rattle.unit.specs.Layout.{lengthsFrom, total, storeLen, workLen, StoreIs, WorkIs, RingBegins, RingsBegin, PassesBegin, RowsBegin}
 
 pub store-is : StoreIs
 unfolding storeLen total lengthsFrom
@@ -12,20 +14,18 @@ pub work-is : WorkIs
 unfolding workLen total
 work-is f = omega arith
 
+-- four equal numbers make two equal lists
+four : {a a′ b b′ c c′ d d′ : ℕ} → a ≡ a′ → b ≡ b′ → c ≡ c′ → d ≡ d′ → a ∷ b ∷ c ∷ d ∷ [] ≡ a′ ∷ b′ ∷ c′ ∷ d′ ∷ []
+four p q r s = λ i. p i ∷ q i ∷ r i ∷ s i ∷ []
+
 pub passes-begin : PassesBegin
 unfolding total lengthsFrom
-passes-begin u = omega arith
+passes-begin u = four (omega arith) (omega arith) (omega arith) (omega arith)
 
 pub rows-begin : RowsBegin
-rows-begin f =
-    let mixed : f + 16 * f ≡ 17 * f = omega arith in
-    let output : f + 16 * f + 16 * f ≡ 33 * f = omega arith in
-    let rings : f + 16 * f + 16 * f + f ≡ 34 * f = omega arith in
-    λ i. record { reads = f; mixed = mixed i; output = output i; rings = rings i }
-
-pub among-passes : AmongPasses
 unfolding total
-among-passes = refl
+rows-begin f i =
+    (omega (arith, add-mul 1 i f), omega (arith, add-mul 17 i f), omega arith, four (omega arith) (omega arith) (omega arith) (omega arith))
 
 -- one of four
 one-of-four : (P : ℕ → Type 0) → P 0 → P 1 → P 2 → P 3 → (n : ℕ) → n < 4 → P n

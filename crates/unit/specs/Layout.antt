@@ -46,7 +46,7 @@ total (l ∷ ls) = l + total ls
 unfoldable pub storeLen : Model → List ℕ → ℕ
 storeLen m ls = total ls + total (m .passLengths)
 
--- R1.20: a list cut into stretches of the lengths ls, stretch k. Line k's ring is that of a store
+-- R1.20, R1.22: stretch k of a list that is cut into stretches of the lengths ls: of a store, line k's ring
 unfoldable pub stretch : List ℕ → ℕ → List Float → List Float
 stretch ls k xs = take (getD ls k 0) (drop (total (take k ls)) xs)
 
@@ -75,23 +75,26 @@ StoreIs = (u : UnitState) → storeLen wall (lengths wall u) ≡ 7600 + 16 * u .
 abbrev pub WorkIs : Type 0
 WorkIs = (f : ℕ) → workLen wall f ≡ 1348 + 34 * f
 
--- R1.20: where the wall unit's rings begin in the store: that of line 4 q + r, and after all lines' the allpass rings
+-- R1.20: where the wall unit's rings begin in the store, that of line 4 q + r and after all lines' the allpass rings
 abbrev pub RingBegins : UnitState → ℕ → ℕ → Type 0
 RingBegins u q r = total (take (4 * q + r) (lengths wall u)) ≡ 1563 * q + getD (0 ∷ 225 ∷ 566 ∷ 1007 ∷ []) r 0 + (4 * q + r) * u .settings .frame
 
 abbrev pub RingsBegin : Type 0
 RingsBegin = (u : UnitState) (q r : ℕ) → q < 4 → r < 4 → RingBegins u q r
 
+-- where the four allpass rings begin that lie from a on
+abbrev pub passesFrom : ℕ → List ℕ
+passesFrom a = map (λ (k : ℕ). a + total (take k (wall .passLengths))) (0 ∷ 1 ∷ 2 ∷ 3 ∷ [])
+
 abbrev pub PassesBegin : Type 0
-PassesBegin = (u : UnitState) → total (lengths wall u) ≡ 6252 + 16 * u .settings .frame
+PassesBegin = (u : UnitState) → let F = u .settings .frame in
+    passesFrom (total (lengths wall u)) ≡ (6252 + 16 * F) ∷ (6477 + 16 * F) ∷ (6818 + 16 * F) ∷ (7159 + 16 * F) ∷ []
 
--- R1.22: where its rows begin in the work memory, and then the allpass rings
+-- R1.22: where its rows begin in the work memory, read row i and mixed row i among them, and then the allpass rings
 abbrev pub RowsBegin : Type 0
-RowsBegin = (f : ℕ) → placesOf (wall .lines) f ≡ record { reads = f; mixed = 17 * f; output = 33 * f; rings = 34 * f }
-
--- R1.20, R1.22: where the allpass rings begin among themselves
-abbrev pub AmongPasses : Type 0
-AmongPasses = map (λ (k : ℕ). total (take k (wall .passLengths))) (0 ∷ 1 ∷ 2 ∷ 3 ∷ []) ≡ 0 ∷ 225 ∷ 566 ∷ 907 ∷ []
+RowsBegin = (f i : ℕ) → let p = placesOf (wall .lines) f in
+    (p .reads + i * f ≡ (1 + i) * f) × (p .mixed + i * f ≡ (17 + i) * f) × (p .output ≡ 33 * f)
+    × (passesFrom (p .rings) ≡ (34 * f) ∷ (34 * f + 225) ∷ (34 * f + 566) ∷ (34 * f + 907) ∷ [])
 
 -- R1.15: the band filters of a line. The tone has as many
 abbrev pub bandsLen : ℕ

@@ -76,8 +76,8 @@ pub struct Places {
     pub rings: usize,
 }
 
-// The places in the work memory of n lines and a frame of f. Where there are more lines than the wall
-// unit's, or a row is longer than a ring may be, there is no such memory, and every place is 0.
+// The places in the work memory of n lines and a frame of f (R1.22). Where there are more lines than the
+// wall unit's, or a row is longer than a ring may be, there is no such memory, and every place is 0.
 pub fn work_places(n: usize, f: usize) -> Places
     ensures { λ r. ⌜ r ≡ cond (leb n (wall .lines) && leb f longestRing) (placesOf n f) (placesOf 0 0) ⌝ }
 {
