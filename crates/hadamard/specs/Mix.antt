@@ -49,6 +49,10 @@ mixed n k xs = each n (λ r. mixAt k r xs)
 abbrev pub quarter : Float
 quarter = ofBits binary32 0x3e80_0000
 
--- R3.29: 16 floats in both
+-- R3.29: how many lines the mix on its own is of
+abbrev pub width : ℕ
+width = 16
+
+-- R3.29: a float of each line in both
 unfoldable pub judgedSample : ℕ → ℕ → Answer
-judgedSample x y = need (eqb x 16 && eqb y 16) BadLength Accepted
+judgedSample x y = need (eqb x width && eqb y width) BadLength Accepted

@@ -10,7 +10,7 @@ ghost use mathlib.Core.Path.{_≡_};
 ghost use Prim.Native.Nat.{_<_};
 ghost use lib.ListN.{length};
 ghost use Rattle.samples.specs.Answers.{accept};
-ghost use Rattle.hadamard.specs.Mix.{minus, plusMinus, mixAt, mixed, quarter, judgedSample};
+ghost use Rattle.hadamard.specs.Mix.{minus, plusMinus, mixAt, mixed, quarter, width, judgedSample};
 
 // How many lines the mix on its own is of (R3.29).
 const WIDTH: usize = 16;
@@ -28,7 +28,7 @@ pub fn minus(r: usize, c: usize) -> bool
 // Mixes one sample of each of sixteen lines (R3.29).
 pub fn mix_sample(x: &[f32], y: &mut [f32]) -> Answer
     ensures { λ a. ⌜ a ≡ judgedSample (length (now (x .entry))) (length (now (y .entry))) ⌝ }
-    ensures { λ a. ⌜ now (y .exit) ≡ accept a (mixed 16 quarter (now (x .entry))) (now (y .entry)) ⌝ }
+    ensures { λ a. ⌜ now (y .exit) ≡ accept a (mixed width quarter (now (x .entry))) (now (y .entry)) ⌝ }
 {
     let ok = and(x.len() == WIDTH, y.len() == WIDTH);
     let a = need(ok, Answer::BadLength, Answer::Accepted);
