@@ -5,11 +5,11 @@ use mathlib.Core.List.{List, _∷_}
 use Prim.Native.Nat.{ℕ, _+_, _≤_, _<_}
 use native.Mathlib.Omega.{arith}
 use lib.IntN.{pos}
-use lib.Dec.{leb, eqb, lit≤}
+use lib.Dec.{leb, ltb, eqb, lit≤}
 use lib.Ieee.{Float, binary32, ofBits, ofInt}
 use lib.Ieee.Exact.{HasValue}
 use lib.ListN.{length, getD, drop}
-use borrow.Author.Tests.{leb-true, eqb-true}
+use borrow.Author.Tests.{leb-true, ltb-true, eqb-true}
 use Rattle.samples.specs.declared.Answer.{Answer}
 use Rattle.samples.specs.declared.Answer.the-variants.{Accepted, BadSize, BadLength, BadIndex, BadTime}
 use Rattle.samples.specs.Answers.{accepted}
@@ -21,6 +21,7 @@ use Rattle.bands.specs.Times.{timeOk}
 use Rattle.bands.proofs.Bounds.{Upto, held, whole-exact, value-upto, mul-upto, div-upto, whole-upto}
 use Rattle.bands.proofs.Tail.{time-upto}
 use Rattle.primes.specs.declared.Value.{Value}
+use Rattle.primes.specs.Table.{primesLen}
 use Rattle.primes.specs.Values.{valued, MinRange, valueFrom, valuesFrom, judgedTime, judgedIndex, judgedPower, judgedMin, judgedValue, judgedValues}
 
 -- ---- the two ways out of a call that gives a value
@@ -37,10 +38,10 @@ module _ {a j : Answer} {r : Bool} (e : a ≡ j) (t : r ≡ accepted a) where
 pub time-of : (time : Float) → judgedTime time ≡ Accepted → timeOk time ≡ true
 time-of time e = needed (timeOk time) BadTime Accepted refl e .0
 
-pub index-of : (index : ℕ) → judgedIndex index ≡ Accepted → index < 16
-index-of index e = omega (arith, leb-true index 15 (needed (leb index 15) BadIndex Accepted refl e .0))
+pub index-of : (index : ℕ) → judgedIndex index ≡ Accepted → index < primesLen
+index-of index e = ltb-true index primesLen (needed (ltb index primesLen) BadIndex Accepted refl e .0)
 
-pub power-of : (x index : ℕ) → judgedPower x index ≡ Accepted → (x ≤ 200000) × (index < 16)
+pub power-of : (x index : ℕ) → judgedPower x index ≡ Accepted → (x ≤ 200000) × (index < primesLen)
 power-of x index e =
     let p = needed (leb x 200000) BadIndex (judgedIndex index) refl e in
     (leb-true x 200000 (p .0), index-of index (p .1))
@@ -54,16 +55,16 @@ min-of time rate e =
     let p = needed (rateOk rate) BadSize (judgedTime time) refl e in
     record { rates = rate-of rate (p .0); time = time-of time (p .1) }
 
-pub value-of : (time : Float) (rate index : ℕ) → judgedValue time rate index ≡ Accepted → Timed time rate × (index < 16)
+pub value-of : (time : Float) (rate index : ℕ) → judgedValue time rate index ≡ Accepted → Timed time rate × (index < primesLen)
 value-of time rate index e =
     let p = needed (rateOk rate) BadSize _ refl e in
-    let q = needed (leb index 15) BadIndex (judgedTime time) refl (p .1) in
-    (record { rates = rate-of rate (p .0); time = time-of time (q .1) }, omega (arith, leb-true index 15 (q .0)))
+    let q = needed (ltb index primesLen) BadIndex (judgedTime time) refl (p .1) in
+    (record { rates = rate-of rate (p .0); time = time-of time (q .1) }, ltb-true index primesLen (q .0))
 
-pub values-of : (time : Float) (rate randoms out : ℕ) → judgedValues time rate randoms out ≡ Accepted → Timed time rate × (randoms ≡ 16) × (out ≡ 16)
+pub values-of : (time : Float) (rate randoms out : ℕ) → judgedValues time rate randoms out ≡ Accepted → Timed time rate × (randoms ≡ primesLen) × (out ≡ primesLen)
 values-of time rate randoms out e =
     let p = needed (rateOk rate) BadSize _ refl e in
-    let q = needed (eqb randoms 16 && eqb out 16) BadLength (judgedTime time) refl (p .1) in
+    let q = needed (eqb randoms primesLen && eqb out primesLen) BadLength (judgedTime time) refl (p .1) in
     let s = split-and _ _ (q .0) in
     (record { rates = rate-of rate (p .0); time = time-of time (q .1) }, eqb-true _ _ (s .0), eqb-true _ _ (s .1))
 

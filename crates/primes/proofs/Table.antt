@@ -9,7 +9,7 @@ use lib.Dec.{leb, eqb}
 use borrow.Author.Tests.{leb-true, eq-eqb}
 use Rattle.samples.specs.Lists.{allFrom}
 use Rattle.samples.proofs.Laws.{split-and, all-at}
-use Rattle.primes.specs.Table.{primes, primeAt, delays, delayAt, Prime, none, passes, TableIsPrimes}
+use Rattle.primes.specs.Table.{primesLen, primes, primeAt, delays, delayAt, Prime, none, passes, TableIsPrimes}
 
 -- what `none` found of no number below k holds of none
 pub none-at : (f : ℕ → Bool) (k j : ℕ) → none f k ≡ true → j < k → f j ≡ true → ⊥
@@ -22,10 +22,10 @@ none-at f (suc k) j e h t =
     ]
 
 -- a test that every entry of the table passes
-pub at : (p : ℕ → Bool) → allFrom (λ k x. p x) 0 primes ≡ true → (i : ℕ) → i < 16 → p (primeAt i) ≡ true
+pub at : (p : ℕ → Bool) → allFrom (λ k x. p x) 0 primes ≡ true → (i : ℕ) → i < primesLen → p (primeAt i) ≡ true
 at p e i h = all-at (λ k x. p x) primes 0 i 0 h e
 
-pub prime-range : (i : ℕ) → i < 16 → (2 ≤ primeAt i) × (primeAt i ≤ 53)
+pub prime-range : (i : ℕ) → i < primesLen → (2 ≤ primeAt i) × (primeAt i ≤ 53)
 prime-range i h = let p = split-and _ _ (at (λ n. leb 2 n && leb n 53) refl i h) in (leb-true _ _ (p .0), leb-true _ _ (p .1))
 
 back : (d : ℕ) → 2 ≤ d → d - 2 + 2 ≡ d

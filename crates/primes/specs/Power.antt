@@ -3,7 +3,7 @@ use mathlib.Core.Path.{_≡_}
 use mathlib.Core.Bool.{cond}
 use Prim.Native.Nat.{ℕ, zero, suc, _+_, _-_, _*_, _^_, _≤_, _<_, min, max}
 use lib.Dec.{ltb}
-use Rattle.primes.specs.Table.{primeAt}
+use Rattle.primes.specs.Table.{primesLen, primeAt}
 
 -- R6.13: of v, v·p, v·p², .. the first with x² < v²·p; after n of them the next, untested
 unfoldable pub powerFrom : ℕ → ℕ → ℕ → ℕ → ℕ
@@ -33,4 +33,4 @@ NearestInRatio = (p x k : ℕ) → 2 ≤ p → max x (nearestPower p x) * min x 
 
 -- R6.15: no x lies as near to one power of a prime of the table as to the next
 abbrev pub NeverATie : Type 0
-NeverATie = (i m x : ℕ) → i < 16 → x * x ≡ primeAt i ^ (2 * m + 1) → ⊥
+NeverATie = (i m x : ℕ) → i < primesLen → x * x ≡ primeAt i ^ (2 * m + 1) → ⊥

@@ -6,6 +6,10 @@ use Prim.Native.Nat.{ℕ, zero, suc, _+_, _-_, _%_, _≤_, _<_}
 use lib.Dec.{eqb}
 use lib.ListN.{getD}
 
+-- R6.7, R2.14: how many primes there are, one a line; an index is below it
+abbrev pub primesLen : ℕ
+primesLen = 16
+
 -- R6.7: the primes
 abbrev pub primes : List ℕ
 primes = 2 ∷ 3 ∷ 5 ∷ 7 ∷ 11 ∷ 13 ∷ 17 ∷ 19 ∷ 23 ∷ 29 ∷ 31 ∷ 37 ∷ 41 ∷ 43 ∷ 47 ∷ 53 ∷ []
@@ -41,4 +45,4 @@ passing (suc k) n = cond (passes n) (n ∷ passing k (suc n)) (passing k (suc n)
 
 -- R6.7: the table holds the primes up to 53, in order, those of the 52 numbers from 2 on that pass trial division. Each entry is a prime
 abbrev pub TableIsPrimes : Type 0
-TableIsPrimes = (primes ≡ passing 52 2) × ((i : ℕ) → i < 16 → Prime (primeAt i))
+TableIsPrimes = (primes ≡ passing 52 2) × ((i : ℕ) → i < primesLen → Prime (primeAt i))

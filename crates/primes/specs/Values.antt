@@ -4,7 +4,7 @@ use mathlib.Core.Bool.{true, _&&_}
 use mathlib.Core.List.{List, [], _∷_}
 use Prim.Native.Nat.{ℕ, _+_, _%_, _≤_}
 use lib.IntN.{pos}
-use lib.Dec.{leb, eqb}
+use lib.Dec.{leb, ltb, eqb}
 use lib.Ieee.{Float, binary32, ofInt, ofBits, toUnsigned}
 use Rattle.samples.specs.declared.Answer.{Answer}
 use Rattle.samples.specs.declared.Answer.the-variants.{Accepted, BadSize, BadLength, BadIndex, BadTime}
@@ -13,7 +13,7 @@ use Rattle.samples.specs.Binary32.{_⊗_, _⊘_}
 use Rattle.samples.specs.Sizes.{rateOk}
 use Rattle.bands.specs.Times.{timeOk}
 use Rattle.primes.specs.declared.Value.{Value}
-use Rattle.primes.specs.Table.{primeAt}
+use Rattle.primes.specs.Table.{primesLen, primeAt}
 use Rattle.primes.specs.Power.{nearestPower}
 
 -- R6.21: an answer with its value, which is 0 where it is a refusal
@@ -42,7 +42,7 @@ abbrev pub judgedTime : Float → Answer
 judgedTime time = need (timeOk time) BadTime Accepted
 
 abbrev pub judgedIndex : ℕ → Answer
-judgedIndex index = need (leb index 15) BadIndex Accepted
+judgedIndex index = need (ltb index primesLen) BadIndex Accepted
 
 -- R6.18: 4 for x, then for the index
 abbrev pub judgedPower : ℕ → ℕ → Answer
@@ -53,8 +53,8 @@ abbrev pub judgedMin : Float → ℕ → Answer
 judgedMin time rate = need (rateOk rate) BadSize (judgedTime time)
 
 abbrev pub judgedValue : Float → ℕ → ℕ → Answer
-judgedValue time rate index = need (rateOk rate) BadSize (need (leb index 15) BadIndex (judgedTime time))
+judgedValue time rate index = need (rateOk rate) BadSize (need (ltb index primesLen) BadIndex (judgedTime time))
 
--- R6.20: 2, then 3 unless both slices have sixteen, then 6
+-- R6.20: 2, then 3 unless both slices have one for each prime, then 6
 abbrev pub judgedValues : Float → ℕ → ℕ → ℕ → Answer
-judgedValues time rate randoms out = need (rateOk rate) BadSize (need (eqb randoms 16 && eqb out 16) BadLength (judgedTime time))
+judgedValues time rate randoms out = need (rateOk rate) BadSize (need (eqb randoms primesLen && eqb out primesLen) BadLength (judgedTime time))

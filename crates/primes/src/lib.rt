@@ -9,7 +9,7 @@ ghost use Prim.Native.Nat.{_≤_, _<_};
 ghost use lib.ListN.{length};
 ghost use Rattle.samples.specs.Answers.{accept};
 ghost use Rattle.bands.specs.Times.{timeOk};
-ghost use Rattle.primes.specs.Table.{primeAt, delayAt};
+ghost use Rattle.primes.specs.Table.{primesLen, primeAt, delayAt};
 ghost use Rattle.primes.specs.Power.{nearestPower};
 ghost use Rattle.primes.specs.Values.{valued, delayMin, valueFrom, valuesFrom, judgedTime, judgedIndex, judgedMin, judgedPower, judgedValue, judgedValues};
 use bands::time_ok;
@@ -124,7 +124,7 @@ pub fn delay_values(time: f32, rate: u32, randoms: &[u16], out: &mut [u32]) -> A
 fn judge_index(index: usize) -> Answer
     ensures { λ r. ⌜ r ≡ judgedIndex index ⌝ }
 {
-    need(index <= 15, Answer::BadIndex, Answer::Accepted)
+    need(index < LINES, Answer::BadIndex, Answer::Accepted)
 }
 
 // The answer of `prime_power`.
@@ -145,7 +145,7 @@ fn judge_min(time: f32, rate: u32) -> Answer
 fn judge_value(time: f32, rate: u32, index: usize) -> Answer
     ensures { λ r. ⌜ r ≡ judgedValue time rate index ⌝ }
 {
-    let rest = need(index <= 15, Answer::BadIndex, judge_time(time));
+    let rest = need(index < LINES, Answer::BadIndex, judge_time(time));
     need(rate_ok(rate), Answer::BadSize, rest)
 }
 
@@ -167,7 +167,7 @@ fn judge_time(time: f32) -> Answer
 
 // The prime at an index of the table.
 fn prime_at(index: usize) -> u32
-    requires { ⌜ index < 16 ⌝ }
+    requires { ⌜ index < primesLen ⌝ }
     ensures { λ r. ⌜ r ≡ primeAt index ⌝ }
 {
     PRIMES[index]
@@ -184,7 +184,7 @@ fn least(time: f32, rate: u32) -> u32
 
 // The power nearest to x of the prime at an index of the table.
 fn power_at(x: u32, index: usize) -> u32
-    requires { ⌜ (x ≤ 200000) × (index < 16) ⌝ }
+    requires { ⌜ (x ≤ 200000) × (index < primesLen) ⌝ }
     ensures { λ r. ⌜ r ≡ nearestPower (primeAt index) x ⌝ }
 {
     nearest_power(prime_at(index) as u64, x as u64) as u32
@@ -205,7 +205,7 @@ fn nearest_power(p: u64, x: u64) -> u64
 
 // The delay value of a line, from the least delay and a random number.
 fn value_at(least: u32, random: u16, index: usize) -> u32
-    requires { ⌜ (least ≤ 192000) × (index < 16) ⌝ }
+    requires { ⌜ (least ≤ 192000) × (index < primesLen) ⌝ }
     ensures { λ r. ⌜ r ≡ valueFrom least random index ⌝ }
 {
     power_at(least + (random % 101) as u32, index)
@@ -213,7 +213,7 @@ fn value_at(least: u32, random: u16, index: usize) -> u32
 
 // Sets the delay value of every line.
 fn set_values(least: u32, randoms: &[u16], out: &mut [u32])
-    requires { ⌜ (least ≤ 192000) × (length (now randoms) ≡ 16) × (length (now out) ≡ 16) ⌝ }
+    requires { ⌜ (least ≤ 192000) × (length (now randoms) ≡ primesLen) × (length (now out) ≡ primesLen) ⌝ }
     ensures { λ _. ⌜ now (out .exit) ≡ valuesFrom least 0 (now (randoms .entry)) ⌝ }
 {
     for i in 0..LINES {
