@@ -28,11 +28,11 @@ pub const PRIMES: [u32; LINES] = [2, 3, 5, 7, 11, 13, 17, 19, 23, 29, 31, 37, 41
 // The ring delays: line i has that of i mod 4.
 pub const DELAYS: [usize; 4] = [225, 341, 441, 556];
 
-// What the least delays of all lines take of the reverb time together.
-const SHARE: f32 = 0.15;
+// What the least delays of all lines sum up to, as a part of the reverb time.
+const SUM_OF_TIME: f32 = 0.15;
 
-// The lines among which it is divided.
-const SHARERS: f32 = 16.0;
+// The parts of that sum, one a line.
+const SUM_PARTS: f32 = 16.0;
 
 // An answer with a value: 0 where the call is refused.
 pub struct Value {
@@ -178,8 +178,8 @@ fn least(time: f32, rate: u32) -> u32
     requires { ⌜ timeOk time ≡ true ⌝ ∗ ⌜ rate ≤ 192000 ⌝ }
     ensures { λ r. ⌜ (r ≡ delayMin time rate) × (r ≤ 192000) ⌝ }
 {
-    let sum = SHARE * time * std::num::nearest_u32_to_f32(rate);
-    std::num::truncating_f32_to_u64(sum / SHARERS) as u32
+    let sum = SUM_OF_TIME * time * std::num::nearest_u32_to_f32(rate);
+    std::num::truncating_f32_to_u64(sum / SUM_PARTS) as u32
 }
 
 // The power nearest to x of the prime at an index of the table.
