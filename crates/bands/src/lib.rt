@@ -6,7 +6,7 @@ ghost use mathlib.Core.Path.{_≡_};
 ghost use mathlib.Core.Bool.{true};
 ghost use Prim.Native.Nat.{_≤_};
 ghost use lib.IntN.{pos};
-ghost use Rattle.samples.specs.Sizes.{longestFrame};
+ghost use Rattle.samples.specs.Sizes.{highestRate, shortestFrame, longestFrame};
 ghost use Rattle.bands.specs.Times.{timeOk, timesOk, larger, largest};
 ghost use Rattle.bands.specs.Tail.{ceiling, framesIn, judgedTailCount, countOf, fallen};
 use samples::Answer;
@@ -94,7 +94,7 @@ fn judge(t: Times, rate: u32, frame: usize) -> Answer
 
 // How many frames it takes to cover a time, a part of a frame counted as a whole one.
 fn frames_in(time: f32, rate: u32, frame: u32) -> u32
-    requires { ⌜ timeOk time ≡ true ⌝ ∗ ⌜ (rate ≤ 192000) × (4 ≤ frame) × (frame ≤ longestFrame) ⌝ }
+    requires { ⌜ timeOk time ≡ true ⌝ ∗ ⌜ (rate ≤ highestRate) × (shortestFrame ≤ frame) × (frame ≤ longestFrame) ⌝ }
     ensures { λ r. ⌜ (r ≡ ceiling (framesIn time rate frame)) × (r ≤ 4800000) ⌝ }
 {
     let samples = time * std::num::nearest_u32_to_f32(rate);

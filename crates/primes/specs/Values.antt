@@ -10,7 +10,7 @@ use Rattle.samples.specs.declared.Answer.{Answer}
 use Rattle.samples.specs.declared.Answer.the-variants.{Accepted, BadSize, BadLength, BadIndex, BadTime}
 use Rattle.samples.specs.Answers.{need, accept}
 use Rattle.samples.specs.Binary32.{_⊗_, _⊘_}
-use Rattle.samples.specs.Sizes.{rateOk}
+use Rattle.samples.specs.Sizes.{highestRate, rateOk}
 use Rattle.bands.specs.Times.{timeOk}
 use Rattle.primes.specs.declared.Value.{Value}
 use Rattle.primes.specs.Table.{primesLen, primeAt}
@@ -26,7 +26,7 @@ delayMin time rate = toUnsigned 64 (ofBits binary32 0x3e19_999a ⊗ time ⊗ ofI
 
 -- R6.11: its range, and with it that of x, at most 192,100
 abbrev pub MinRange : Type 0
-MinRange = (time : Float) (rate : ℕ) → timeOk time ≡ true → rate ≤ 192000 → delayMin time rate ≤ 192000
+MinRange = (time : Float) (rate : ℕ) → timeOk time ≡ true → rate ≤ highestRate → delayMin time rate ≤ 192000
 
 -- R6.11, R6.12: x, and the power of the line's prime nearest to it
 abbrev pub valueFrom : ℕ → ℕ → ℕ → ℕ

@@ -8,6 +8,7 @@ ghost use mathlib.Core.Bool.{true};
 ghost use Prim.Native.Nat.{_≤_, _<_};
 ghost use lib.ListN.{length};
 ghost use Rattle.samples.specs.Answers.{accept};
+ghost use Rattle.samples.specs.Sizes.{highestRate};
 ghost use Rattle.bands.specs.Times.{timeOk};
 ghost use Rattle.primes.specs.Table.{primesLen, primeAt, delayAt};
 ghost use Rattle.primes.specs.Power.{nearestPower};
@@ -175,7 +176,7 @@ fn prime_at(index: usize) -> u32
 
 // The least delay of a line at a time and a rate in range.
 fn least(time: f32, rate: u32) -> u32
-    requires { ⌜ timeOk time ≡ true ⌝ ∗ ⌜ rate ≤ 192000 ⌝ }
+    requires { ⌜ timeOk time ≡ true ⌝ ∗ ⌜ rate ≤ highestRate ⌝ }
     ensures { λ r. ⌜ (r ≡ delayMin time rate) × (r ≤ 192000) ⌝ }
 {
     let sum = SUM_OF_TIME * time * std::num::nearest_u32_to_f32(rate);
