@@ -1,9 +1,9 @@
 -- The two ways on from a judgement, by the test of a refusal: what a call that is let by or refused gives. Assumes nothing.
-use mathlib.Core.Path.{_≡_, refl, sym, ap, _∙_}
+use mathlib.Core.Path.{_≡_, sym, ap, _∙_}
 use mathlib.Core.Bool.{Bool, true, false, not, cond}
 use borrow.Author.Tests.{not-true, not-false}
 use Rattle.samples.specs.declared.Answer.{Answer}
-use Rattle.samples.specs.Answers.{accept, accepted}
+use Rattle.samples.specs.Answers.{accepted}
 use Rattle.samples.proofs.Laws as laws
 
 -- `a` is the answer given, which is the judgement b, and `ok` what the test of it said
@@ -13,12 +13,6 @@ module _ (a b : Answer) (ok : Bool) (e : a ≡ b) (t : ok ≡ accepted a) where
 
   pub let-by : not ok ≡ false → accepted b ≡ true
   let-by h = ap accepted (laws.let-by e t (not-false ok h))
-
-  pub old-left : {A : Type 0} (new old : A) → not ok ≡ true → old ≡ accept b new old
-  old-left new old h = laws.old-left e t new old (not-true ok h)
-
-  pub new-left : {A : Type 0} (new old : A) → not ok ≡ false → new ≡ accept b new old
-  new-left new old h = laws.new-made e t old (not-false ok h) refl
 
 -- what is left where a test is refused, and where it is passed
 pub when-not : {A : Type 0} (ok : Bool) (r new old : A) → not ok ≡ true → r ≡ old → r ≡ cond ok new old
