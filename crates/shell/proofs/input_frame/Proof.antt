@@ -5,8 +5,9 @@ use denote.Ref.{now}
 use mathlib.Core.Path.{_≡_}
 use lib.ListN.{length}
 use Rattle.unit.specs.UnitState.{ofState}
+use Rattle.unit.proofs.Laws.{work-is}
 use Rattle.machine.specs.Whole as Play
-use Rattle.shell.specs.Settings.{workFloats}
+use Rattle.shell.specs.Settings.{frame, workFloats}
 use Rattle.shell.proofs.Said.{frame-ends}
 use Rattle.shell.proofs.input_frame.Statement.{statement}
 use Rattle.shell.proofs.input_frame.Tie as tie
@@ -18,7 +19,7 @@ returns c =
     let timed = set-up .before in
     let read = timed .before .before in
     let a = read .before .before .before .args in
-    let long : length (now (a .work)) ≡ workFloats = omega (arith, ran .before .before) in
+    let long : length (now (a .work)) ≡ workFloats = omega (arith, ran .before .before, work-is frame) in
     let g = frame-ends (ofState (a .s)) (now (a .store)) (now (a .work)) _ _ _ _ (now (a .out)) _
     (λ i. Play.apply (timed .times .ensures i) (set-up .coefficients .ensures i) (read .decode .ensures i))
     (omega arith) (omega arith) (ran .apply .ensures) (c .encode .ensures) in

@@ -7,6 +7,8 @@ use denote.Ref.{now}
 use Rattle.samples.specs.declared.Answer.the-variants.{Accepted}
 use Rattle.samples.specs.Sizes.{rateOk, frameOk}
 use Rattle.unit.specs.Layout.{wall, lengthsFrom, total, storeLen}
+use Rattle.unit.specs.Fresh.{freshUnit}
+use Rattle.unit.proofs.Laws.{store-is}
 use Rattle.judges.specs.Judges.{judgedFresh}
 use Rattle.shell.specs.Settings.{frame, rate, storeFloats}
 use Rattle.shell.proofs.settings.start.Statement.{statement}
@@ -18,7 +20,7 @@ fresh-accepted = refl
 
 returns : tie.Need-returns
 returns c =
-    let m : length (now (c .before .before .args .store)) ≡ storeFloats = omega arith in
+    let m : length (now (c .before .before .args .store)) ≡ storeFloats = omega (arith, store-is (freshUnit wall rate frame)) in
     rw (m, fresh-accepted) at (c .fresh .ensures)
 
 pub start-spec : {M : Type 1} → statement M
