@@ -8,7 +8,7 @@ use Rattle.machine.specs.Requests.{Request, request}
 
 -- what may happen to a unit: a fresh on its own store, whose state takes the place of the unit's, the blank one of a refused fresh too; or a
 -- request, that is any other call, each time with any work memory and with the unit's own store or any other.
--- A store is lent as store alone: no part of it is lent as work memory, input or output. That is the premise R8.8: a job writes its work
+-- A store is lent as store alone: no part of it is lent as work memory or as output. That is the premise R8.8: a job writes its work
 -- memory, and a stretch of the store lent as such may be left with an infinity by calls that all answer 0
 pub data Event : Type 0 where
   anew : ℕ → ℕ → Event

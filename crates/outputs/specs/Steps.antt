@@ -28,7 +28,7 @@ outputLaid n f d p fs room work =
 unfoldable pub outputEnds : ℕ → ℕ → Float → AllpassRings → List Filter → Bool → List Float → List Filter
 outputEnds n f d p fs room work = cond room (over (filterAt n) (outputIn n f d p fs (rowsOf n f work) .filters) fs) fs
 
--- both where the memory is judged by its length (R3.37)
+-- both where n, f and the length of the memory are judged (R3.37)
 abbrev pub outputMade : ℕ → ℕ → Float → Rings → List Filter → List Float → List Float
 outputMade n f d r fs work = outputLaid n f d (r .passes) fs (outputFits n f (r .passes .lengths) (length work)) work
 

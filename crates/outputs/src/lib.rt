@@ -27,8 +27,8 @@ ghost use Rattle.rows.specs.Workers.{WorkFits};
 ghost use Rattle.outputs.specs.Steps.{outputLaid, outputEnds, outputMade, outputAfter};
 
 // Step 5 of n lines on a work memory that holds the rows read and the floats of the allpass rings, whose
-// lengths and cursors `rings` has: makes the output, and gives the filters after it. On memory that isn't
-// one of such frames nothing is done (R4.10 to R4.12).
+// lengths and cursors `rings` has: makes the output, and gives the filters after it. Where there are no
+// such lines or frames, or the memory isn't as long as they ask, nothing is done (R4.10 to R4.12).
 pub fn output_row(
     n: usize,
     f: usize,

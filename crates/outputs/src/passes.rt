@@ -35,7 +35,7 @@ pub(crate) fn pass_both(f: usize, passes: AllpassRings, rows: &mut [f32])
     allpass::pass_stage(rows, f, at, mx, my, dx, dy);
 }
 
-// Step 5 of n lines on a work memory that is one of such rows and allpass rings. Gives the filters after
+// Step 5 on a work memory of n lines and frames of f, with these allpass rings. Gives the filters after
 // it.
 pub(crate) fn output_in(
     n: usize,

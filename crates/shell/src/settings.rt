@@ -21,7 +21,7 @@ ghost use lib.Ieee.{binary32, ofBits};
 ghost use lib.ListN.{replicate};
 ghost use Rattle.samples.specs.Binary32.{+0};
 ghost use Rattle.samples.specs.declared.Answer.the-variants.{Accepted};
-ghost use Rattle.unit.specs.Layout.{wall};
+ghost use Rattle.unit.specs.Layout.{wall, bandsLen, filterAt};
 ghost use Rattle.unit.specs.Fresh.{freshUnit};
 ghost use Rattle.unit.specs.Outcome.{outcome};
 ghost use Rattle.audio_buffer.specs.declared.AudioEffectState.the-variants.{TailComplete};
@@ -58,7 +58,7 @@ pub fn times() -> Times
 
 // By what filter k multiplies: band 0 of a line halves, every other filter lets by.
 fn b0(k: usize) -> f32
-    ensures { λ r. ⌜ r ≡ cond (ltb k (3 * wall .lines) && eqb (k % 3) 0) (ofBits binary32 0x3f00_0000) (ofBits binary32 0x3f80_0000) ⌝ }
+    ensures { λ r. ⌜ r ≡ cond (ltb k (filterAt (wall .lines)) && eqb (k % bandsLen) 0) (ofBits binary32 0x3f00_0000) (ofBits binary32 0x3f80_0000) ⌝ }
 {
     if and(k < TONE, k % BANDS == 0) {
         0.5
