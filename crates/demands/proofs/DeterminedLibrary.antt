@@ -114,6 +114,7 @@ library-determined = record {
     lengths = λ κs a x y s t p q. p ∙ sym q;
     store-ok = λ κs a x y s t p q. p ∙ sym q;
     work-ok = λ κs a x y s t p q. p ∙ sym q;
+    ring-place = λ κs a x y s t p q. p ∙ sym q;
     work-places = λ κs a x y s t p q. p ∙ sym q;
     is-store = λ κs a x y s t p q. p ∙ sym q;
   };

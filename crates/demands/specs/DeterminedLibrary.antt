@@ -150,6 +150,8 @@ use Rattle.unit.proofs.store_ok.Kinds as unit-store-ok-kinds
 use Rattle.unit.proofs.store_ok.Reads as unit-store-ok-reads
 use Rattle.unit.proofs.work_ok.Kinds as unit-work-ok-kinds
 use Rattle.unit.proofs.work_ok.Reads as unit-work-ok-reads
+use Rattle.unit.proofs.ring_place.Kinds as unit-ring-place-kinds
+use Rattle.unit.proofs.ring_place.Reads as unit-ring-place-reads
 use Rattle.unit.proofs.work_places.Kinds as unit-work-places-kinds
 use Rattle.unit.proofs.work_places.Reads as unit-work-places-reads
 use Rattle.unit.proofs.is_store.Kinds as unit-is-store-kinds
@@ -336,6 +338,7 @@ pub record UnitDetermined : Type 0 where
   pub lengths : Determined 0 unit-lengths-kinds.ps unit-lengths-kinds.r unit-lengths-reads.Post
   pub store-ok : Determined 0 unit-store-ok-kinds.ps unit-store-ok-kinds.r unit-store-ok-reads.Post
   pub work-ok : Determined 0 unit-work-ok-kinds.ps unit-work-ok-kinds.r unit-work-ok-reads.Post
+  pub ring-place : Determined 0 unit-ring-place-kinds.ps unit-ring-place-kinds.r unit-ring-place-reads.Post
   pub work-places : Determined 0 unit-work-places-kinds.ps unit-work-places-kinds.r unit-work-places-reads.Post
   pub is-store : Determined 0 unit-is-store-kinds.ps unit-is-store-kinds.r unit-is-store-reads.Post
 

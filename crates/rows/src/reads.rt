@@ -4,14 +4,14 @@ use samples::and;
 use unit::LINES;
 use unit::Rings;
 use unit::is_store;
+use unit::ring_place;
 use unit::rings_hold;
 use unit::work_places;
 ghost use mathlib.Core.Path.{_≡_};
 ghost use mathlib.Core.Bool.{true};
-ghost use Prim.Native.Nat.{_*_, _<_, _≤_};
-ghost use lib.ListN.{length, take};
-ghost use Rattle.delay.specs.Calls.{longestRing};
-ghost use Rattle.unit.specs.Layout.{wall, total, storeLen};
+ghost use Prim.Native.Nat.{_<_};
+ghost use lib.ListN.{length};
+ghost use Rattle.unit.specs.Layout.{wall, storeLen};
 ghost use Rattle.unit.specs.Room.{ringsHold};
 ghost use Rattle.rows.specs.Workers.{WorkFits};
 ghost use Rattle.rows.specs.Reads.{readLaid, lineRoom};
@@ -45,22 +45,10 @@ fn wall_read(i: usize, f: usize, rings: Rings, store: &[f32], work: &mut [f32])
     let ls = rings.lines.lengths;
     let cs = rings.lines.cursors;
     let c = cs[i];
-    let a = line_start(i, ls);
+    let a = ring_place(i, f, ls);
     let e = a + ls[i];
     let p = work_places(LINES, f);
     let b = p.reads + i * f;
     let t = b + f;
     delay::get(&store[a..e], c, &mut work[b..t]);
-}
-
-// Where the ring of line i begins in a store.
-fn line_start(i: usize, ls: [usize; LINES]) -> usize
-    requires { ⌜ (i ≤ wall .lines) × (total ls ≤ wall .lines * longestRing) ⌝ }
-    ensures { λ r. ⌜ r ≡ total (take i ls) ⌝ }
-{
-    let mut a = 0usize;
-    for j in 0..i {
-        a += ls[j];
-    }
-    a
 }

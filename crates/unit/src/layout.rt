@@ -1,14 +1,21 @@
 // How the wall unit is built and how its memory lies, each number once. The other crates use these
 // names, and prove of them what specs/Layout.antt says.
+use crate::State;
+use crate::room::rings_hold;
 use delay::LONGEST_RING;
 use primes::DELAYS;
 use samples::and;
+use samples::frame_ok;
 ghost use mathlib.Core.Path.{_≡_};
 ghost use mathlib.Core.Bool.{_&&_, cond};
-ghost use Prim.Native.Nat.{_≤_};
+ghost use Prim.Native.Nat.{_*_, _≤_};
 ghost use lib.Dec.{leb};
+ghost use lib.ListN.{replicate, take};
+ghost use Rattle.samples.specs.Sizes.{longestFrame, frameOk};
 ghost use Rattle.delay.specs.Calls.{longestRing};
-ghost use Rattle.unit.specs.Layout.{wall, placesOf};
+ghost use Rattle.unit.specs.UnitState.{ofState};
+ghost use Rattle.unit.specs.Layout.{wall, lengths, total, placesOf};
+ghost use Rattle.unit.specs.Room.{ringsHold};
 
 // The lines.
 pub const LINES: usize = 16;
@@ -66,6 +73,54 @@ pub const OUTPUT_MARK: usize = LINE_MARK + LINES;
 
 // The jobs of a frame, a mark each.
 pub const JOBS: usize = OUTPUT_MARK + 1;
+
+// The lengths of the lines' rings of a unit (R1.10). Where its frame is out of range there is no such
+// unit, and no ring.
+pub fn lengths(s: State) -> [usize; LINES]
+    ensures { λ r. ⌜ r ≡ cond (frameOk (s .frame)) (lengths wall (ofState s)) (replicate (wall .lines) 0) ⌝ }
+{
+    let frame = s.frame;
+    if !frame_ok(frame) {
+        return [0; LINES];
+    }
+    lengths_of(s)
+}
+
+// The same where it is in range.
+fn lengths_of(s: State) -> [usize; LINES]
+    requires { ⌜ s .frame ≤ longestFrame ⌝ }
+    ensures { λ r. ⌜ r ≡ lengths wall (ofState s) ⌝ }
+{
+    let mut ls = [0usize; LINES];
+    for i in 0..LINES {
+        ls[i] = primes::delay(i) + s.frame;
+    }
+    ls
+}
+
+// Where the ring of line i begins in a store of lines' rings of the lengths `ls`, each of which holds a
+// frame of `frame` samples; behind the last line's the allpass rings begin (R1.20). Where there is no such line
+// or a ring can't be, there is no such store, and the place is 0.
+pub fn ring_place(i: usize, frame: usize, ls: [usize; LINES]) -> usize
+    ensures { λ r. ⌜ r ≡ cond (leb i (wall .lines) && ringsHold frame ls) (total (take i ls)) 0 ⌝ }
+{
+    if !and(i <= LINES, rings_hold(frame, ls)) {
+        return 0;
+    }
+    ring_start(i, ls)
+}
+
+// The same where there is.
+fn ring_start(i: usize, ls: [usize; LINES]) -> usize
+    requires { ⌜ (i ≤ wall .lines) × (total ls ≤ wall .lines * longestRing) ⌝ }
+    ensures { λ r. ⌜ r ≡ total (take i ls) ⌝ }
+{
+    let mut a = 0usize;
+    for j in 0..i {
+        a += ls[j];
+    }
+    a
+}
 
 // Where the parts of a work memory begin that come after the input: the rows read, the rows mixed, the
 // output and the allpass rings (R1.22).

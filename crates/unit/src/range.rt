@@ -5,7 +5,7 @@ use crate::layout::JOBS;
 use crate::layout::LINES;
 use crate::layout::PASS_LENGTHS;
 use crate::layout::PASS_RINGS;
-use crate::sizes::lengths;
+use crate::layout::lengths;
 use delay::Cursors;
 use iir::Filter;
 use samples::Frames;

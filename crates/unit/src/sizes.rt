@@ -4,39 +4,11 @@ use crate::layout::ALLPASS_FLOATS;
 use crate::layout::DELAYS_AND_RINGS;
 use crate::layout::LINES;
 use crate::layout::ROWS;
-use samples::frame_ok;
 ghost use mathlib.Core.Path.{_≡_};
-ghost use mathlib.Core.Bool.{cond};
-ghost use Prim.Native.Nat.{_+_, _*_, _<_, _≤_};
+ghost use Prim.Native.Nat.{_+_, _*_, _<_};
 ghost use lib.Dec.{eqb};
-ghost use lib.ListN.{replicate};
-ghost use Rattle.samples.specs.Sizes.{longestFrame, frameOk};
 ghost use Rattle.unit.specs.UnitState.{ofState};
 ghost use Rattle.unit.specs.Layout.{wall, lengths, storeLen, workLen};
-
-// The lengths of the lines' rings of a unit (R1.10). Where its frame is out of range there is no such
-// unit, and no ring.
-pub fn lengths(s: State) -> [usize; LINES]
-    ensures { λ r. ⌜ r ≡ cond (frameOk (s .frame)) (lengths wall (ofState s)) (replicate (wall .lines) 0) ⌝ }
-{
-    let frame = s.frame;
-    if !frame_ok(frame) {
-        return [0; LINES];
-    }
-    lengths_of(s)
-}
-
-// The same where it is in range.
-fn lengths_of(s: State) -> [usize; LINES]
-    requires { ⌜ s .frame ≤ longestFrame ⌝ }
-    ensures { λ r. ⌜ r ≡ lengths wall (ofState s) ⌝ }
-{
-    let mut ls = [0usize; LINES];
-    for i in 0..LINES {
-        ls[i] = primes::delay(i) + s.frame;
-    }
-    ls
-}
 
 // Whether a store has the length that a unit asks (R1.19).
 pub fn store_ok(s: State, store: usize) -> bool

@@ -1,10 +1,11 @@
 -- `rows::reads::wall_read` meets its contract. Assumes nothing.
 use native.Mathlib.Omega.{arith}
 use borrow.Author.Needs.{needs}
+use borrow.Author.Tests.{le-leb}
 use denote.Ref.{now}
-use mathlib.Core.Path.{_≡_}
+use mathlib.Core.Path.{_≡_, refl, _∙_}
 use Prim.Native.Nat.{_+_, _*_, _≤_}
-use lib.ListN.{length, getD}
+use lib.ListN.{length, getD, take}
 use Rattle.unit.specs.Layout.{total, storeLen}
 use Rattle.unit.proofs.Places.{placed, Placed, each}
 use Rattle.unit.proofs.Ranges.{holds-all}
@@ -16,17 +17,17 @@ use Rattle.rows.proofs.reads.wall_read.Tie as tie
 lines-long : (s : tie.Start) → length (s .args .rings .lines .lengths) ≡ 16
 lines-long s = search needs
 
-line-start-requires : tie.Need-line-start-requires
-line-start-requires c κs = let s = c .before .before .before .before .before in (omega arith, omega (arith, lines-long s, holds-all (s .args .f) (s .args .rings .lines .lengths) (s .pre .2)))
-
--- line i's ring ends within the store
-module _ (c : tie.After-line-start) where
+-- line i's ring begins where it is to, and ends within the store
+module _ (c : tie.After-ring-place) where
   abbrev s : tie.Start
   s = c .before .before .before .before .before .before
 
-  ring-ends : c .line-start .result + getD (s .args .rings .lines .lengths) (s .args .i) 0 ≤ length (now (s .args .store))
+  start : c .ring-place .result ≡ total (take (s .args .i) (s .args .rings .lines .lengths))
+  start = c .ring-place .ensures ∙ rw (le-leb (s .args .i) 16 (omega (arith, s .pre .0)), s .pre .2) refl
+
+  ring-ends : c .ring-place .result + getD (s .args .rings .lines .lengths) (s .args .i) 0 ≤ length (now (s .args .store))
   ring-ends =
-      omega (arith, c .line-start .ensures, ring-within (s .args .f) (s .args .rings) (s .args .i) (now (s .args .store)) (now (s .args .work)) (s .pre .0) (lines-long s) (s .pre .2) (s .pre .3) (s .pre .1))
+      omega (arith, start, ring-within (s .args .f) (s .args .rings) (s .args .i) (now (s .args .store)) (now (s .args .work)) (s .pre .0) (lines-long s) (s .pre .2) (s .pre .3) (s .pre .1))
 
   -- and the store is short
   short : length (now (s .args .store)) ≤ 65536 * 16 + 1348
@@ -54,7 +55,7 @@ returns c =
     let s = p called in
     let a = s .args in
     read-laid (a .f) (a .rings) (a .i) (now (a .store)) (now (a .work)) (s .pre .0) (lines-long s) (s .pre .2) (s .pre .3) (s .pre .1) _ _ _
-    (called .before .line-start .ensures) (omega (arith, spots called)) (search needs) (got .get .ensures .1)
+    (start (called .before)) (omega (arith, spots called)) (search needs) (got .get .ensures .1)
 
 pub wall-read-spec : {M : Type 1} → statement M
 wall-read-spec =
@@ -62,7 +63,7 @@ wall-read-spec =
     (tie.spec
     (λ c. search needs)
     (λ c. search needs)
-    line-start-requires
+    (λ c κs. search needs)
     (λ c. search needs)
     (λ c. search needs)
     (λ c. omega (arith, ring-ends c))

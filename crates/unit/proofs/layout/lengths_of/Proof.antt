@@ -1,4 +1,4 @@
--- `unit::sizes::lengths_of` meets its contract. The invariant: the lengths so far, then those left, are the answer. Assumes nothing.
+-- `unit::layout::lengths_of` meets its contract. The invariant: the lengths so far, then those left, are the answer. Assumes nothing.
 use borrow.Author.Needs.{needs}
 use native.Mathlib.Omega.{arith}
 use mathlib.Core.Path.{_≡_, refl, ap, _∙_}
@@ -10,8 +10,8 @@ use Rattle.unit.specs.UnitState.{ofState}
 use Rattle.unit.specs.Layout.{wall, lengthsFrom}
 use Rattle.primes.proofs.Table.{delay-range}
 use Rattle.unit.proofs.Ranges.{lengths-turn}
-use Rattle.unit.proofs.sizes.lengths_of.Statement.{statement}
-use Rattle.unit.proofs.sizes.lengths_of.Tie as tie
+use Rattle.unit.proofs.layout.lengths_of.Statement.{statement}
+use Rattle.unit.proofs.layout.lengths_of.Tie as tie
 
 abbrev Inv-loop : tie.InvT-loop
 Inv-loop s ls₀ i₀ ls i =

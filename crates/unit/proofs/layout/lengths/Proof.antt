@@ -1,10 +1,10 @@
--- `unit::sizes::lengths` meets its contract. Assumes nothing.
+-- `unit::layout::lengths` meets its contract. Assumes nothing.
 use borrow.Author.Needs.{needs}
 use mathlib.Core.Path.{refl, sym, _∙_}
 use borrow.Author.Tests.{not-true, not-false}
 use Rattle.samples.proofs.Laws.{frame-of}
-use Rattle.unit.proofs.sizes.lengths.Statement.{statement}
-use Rattle.unit.proofs.sizes.lengths.Tie as tie
+use Rattle.unit.proofs.layout.lengths.Statement.{statement}
+use Rattle.unit.proofs.layout.lengths.Tie as tie
 
 returns : tie.Need-returns
 returns c = rw (sym (c .before .frame-ok .ensures) ∙ not-true _ (c .if1 .taken)) refl

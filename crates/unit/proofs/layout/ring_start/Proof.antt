@@ -1,14 +1,14 @@
--- `rows::reads::line_start` meets its contract. The invariant: where line j begins. Assumes nothing.
+-- `unit::layout::ring_start` meets its contract. The invariant: where line j begins. Assumes nothing.
 use borrow.Author.Needs.{needs}
 use native.Mathlib.Omega.{arith}
 use native.Mathlib.Numerals.{add-one}
 use mathlib.Core.Path.{_≡_, refl, ap, _∙_}
 use Prim.Native.Nat.{ℕ, suc, _-_, _≤_}
 use lib.ListN.{take}
 use Rattle.unit.specs.Layout.{total}
 use Rattle.unit.proofs.Totals.{total-next, total-front}
-use Rattle.rows.proofs.reads.line_start.Statement.{statement}
-use Rattle.rows.proofs.reads.line_start.Tie as tie
+use Rattle.unit.proofs.layout.ring_start.Statement.{statement}
+use Rattle.unit.proofs.layout.ring_start.Tie as tie
 
 abbrev Inv-loop : tie.InvT-loop
 Inv-loop i ls a₀ j₀ a j = (j ≤ i) × (a ≡ total (take j ls))
@@ -37,8 +37,8 @@ returns c =
     let e : l .loop .j ≡ l .before .args .i = omega (arith, l .loop .inv .0, c .loop-test .left) in
     l .loop .inv .1 ∙ ap (λ (j : ℕ). total (take j (l .before .args .t2))) e
 
-pub line-start-spec : {M : Type 1} → statement M
-line-start-spec =
+pub ring-start-spec : {M : Type 1} → statement M
+ring-start-spec =
     tie.close
     (tie.spec
     Inv-loop
