@@ -99,8 +99,8 @@ fn lengths_of(s: State) -> [usize; LINES]
 }
 
 // Where the ring of line i begins in a store of lines' rings of the lengths `ls`, each of which holds a
-// frame of `frame` samples; behind the last line's the allpass rings begin (R1.20). Where there is no such line
-// or a ring can't be, there is no such store, and the place is 0.
+// frame of `frame` samples; at LINES, behind the last line's, the allpass rings begin (R1.20). Where i is
+// above that or a ring can't be, there is no such store, and the place is 0.
 pub fn ring_place(i: usize, frame: usize, ls: [usize; LINES]) -> usize
     ensures { λ r. ⌜ r ≡ cond (leb i (wall .lines) && ringsHold frame ls) (total (take i ls)) 0 ⌝ }
 {
