@@ -3,7 +3,8 @@
  * Link with libhall.a. The library keeps nothing and allocates nothing: the caller lends all memory, and
  * holds the unit's state, which each call takes by value and hands back in its answer. One frame of F
  * samples goes in, one comes out. A call is made whole (hall_apply, hall_tail) or as 34 jobs (hall_open_..,
- * hall_job_.., hall_close), which give the same, bit for bit, in any order that the rules below allow.
+ * hall_job_.., hall_close), which give the same, bit for bit, in any order that the rules below allow. Up to
+ * 1,024 frames of input may be handed over together (hall_apply_frames).
  *
  * A whole example: one click, then the tail until it has died away.
  *
@@ -41,7 +42,8 @@
  * Every rule stands in docs/RULES.md, by number: R1.19 is the length of a store.
  *
  * THE NUMBER OF AN ANSWER (R2). Where several apply it is the least. A refused call hands the state back as it
- * was given and leaves every lent slice as it was, 9 aside.
+ * was given and leaves every lent slice as it was, 9 aside. Of hall_apply_frames that holds from the refused frame
+ * on: the frames before it stay done, and the state is the one after them.
  *
  *   0  accepted.
  *   1  the state is out of range (R1.27): its rate or frame (see 2), a cursor that isn't below its ring's
@@ -49,21 +51,24 @@
  *      begin again with hall_fresh. Of a ring alone: a cursor, be it the one that stays, isn't below the length.
  *   2  the rate isn't in 8,000 to 192,000, or the frame no multiple of 4 in 4 to 1,024. Choose others.
  *   3  a lent slice hasn't the length that stands at the call; one that is too long is refused too.
- *   4  a number of the request is out of range: line above 15; a ring's n of 0 or above its length; channels
- *      0 or above 16; samples above 65,536; channel not below the channels; x above 200,000; index above 15.
- *   5  out of turn: a job, close or abandon with no frame open; hall_reset, hall_apply, hall_tail or an open
- *      with one open; a job done before, or before those that it waits for; a close before all 34 jobs. Make
- *      the missing jobs first, or hall_abandon. hall_fresh takes no state, so that it is never out of turn.
+ *   4  a number of the request is out of range: line above 15; more than 1,024 frames at once; a ring's n of 0
+ *      or above its length; channels 0 or above 16; samples above 65,536; channel not below the channels; x
+ *      above 200,000; index above 15.
+ *   5  out of turn: a job, close or abandon with no frame open; hall_reset, hall_apply, hall_apply_frames,
+ *      hall_tail or an open with one open; a job done before, or before those that it waits for; a close before
+ *      all 34 jobs. Make the missing jobs first, or hall_abandon. hall_fresh takes no state, so that it is never
+ *      out of turn.
  *   6  a reverb time is no number from 0 to 100.
  *   7  a coefficient isn't finite. Design the filters again.
- *   8  an input sample isn't finite; `index` says which is the first. Mute it and ask again.
+ *   8  an input sample isn't finite; `index` says which is the first. Mute it and ask again, after
+ *      hall_apply_frames from frame `done` on.
  *   9  the frame came to a NaN or an infinity (R4.14). The state is the one from before the frame, store and
  *      output are as they were, work is all +0. Play silence. With gentler coefficients or input the
  *      next frame may be accepted. A 9 that repeats comes from the sound kept in the lines: every later frame
  *      would be refused as well, so call hall_reset.
  *
- * `index` is 0 but with 8. `remaining` is true when hall_apply, hall_tail or hall_close was accepted and the
- * tail has frames left; else false.
+ * `index` is 0 but with 8. `remaining` is true when hall_apply, hall_apply_frames, hall_tail or hall_close was
+ * accepted and the tail has frames left; else false.
  *
  * WHAT IS NOT ALLOWED. Every function takes any values of its numbers, all 64 bits of an index too. Four things
  * it can't see, and the caller must not do: lend slices that overlap, a misaligned pointer, NULL with a count
@@ -91,7 +96,7 @@ extern "C" {
 #endif
 
 /* Changes whenever a struct or a function below does. A state may only go to the version that gave it. */
-#define HALL_VERSION 1
+#define HALL_VERSION 2
 
 /* The floats to lend for frames of F samples, and for the filters. */
 #define HALL_STORE(F) (7600 + 16 * (size_t)(F))
@@ -129,6 +134,15 @@ typedef struct {
     hall_state state;
 } hall_answer;
 
+/* The same of several frames, and how many of them were done. */
+typedef struct {
+    uint32_t number;
+    size_t index;
+    int32_t done;
+    bool remaining;
+    hall_state state;
+} hall_frames_answer;
+
 typedef struct {
     uint32_t number;
     hall_cursors cursors;
@@ -146,9 +160,9 @@ typedef struct {
     uint32_t value;
 } hall_value;
 
-/* ---- Whole frames (R4). Store is HALL_STORE(F) floats, work HALL_WORK(F), input and output F. ----
+/* ---- Whole frames (R4). Store is HALL_STORE(F) floats, work HALL_WORK(F), input and output F each frame. ----
  * The store is kept from call to call. Work may hold anything before a call and is all +0 after one that was
- * accepted. */
+ * accepted, unless it was of no frames. */
 
 /* A unit with silent lines and no filters. Answers 2, 3; refused, the state is that of rate 8,000 and F 4. */
 hall_answer hall_fresh(uint32_t rate, size_t frame, float *store, size_t store_len);
@@ -163,6 +177,22 @@ hall_answer hall_reset(hall_state s, float *store, size_t store_len);
 hall_answer hall_apply(hall_state s, float t0, float t1, float t2, const float *coefficients, size_t coefficients_len,
                        const float *input, size_t input_len, float *store, size_t store_len, float *work,
                        size_t work_len, float *output, size_t output_len);
+
+/* n frames with sound at once, n from 0 to 1,024: what n times hall_apply would do, with one set of times and
+ * coefficients (R10). Input and output are n times F long. Answers 1, 3 to 9: 3 also where the input is no whole
+ * number of frames or the output isn't as long, 4 above 1,024 frames.
+ * 1 to 7 are judged once, before the first frame: refused so, nothing changes and `done` is 0. Then each frame is
+ * judged by 8 and 9, and the first that is refused ends the call. `done` frames stay done, with the state and the
+ * store after them; the output is untouched from the refused frame on, and `index` counts within that frame. Go on
+ * with the answer's state, refused or not: hand over input and output from `done` times F on, an 8 mended; for a 9
+ * see above. With 0 `done` is n.
+ * A refused call's `remaining` is false, though state.count may be above 0 after the frames done. Work is all +0
+ * once a frame was done or a 9 was met, and else as it was. With no frames nothing changes, and `remaining` says
+ * whether state.count is above 0. */
+hall_frames_answer hall_apply_frames(hall_state s, float t0, float t1, float t2, const float *coefficients,
+                                     size_t coefficients_len, const float *input, size_t input_len, float *store,
+                                     size_t store_len, float *work, size_t work_len, float *output,
+                                     size_t output_len);
 
 /* One frame of tail, with the filters of the last apply and their history. Answers 1, 3, 5, 9. */
 hall_answer hall_tail(hall_state s, float *store, size_t store_len, float *work, size_t work_len, float *output,

@@ -26,7 +26,8 @@ use Rattle.machine.specs.Ending.{Memory}
 use Rattle.machine.specs.Calls.{ending, start, answer, after}
 use Rattle.machine.specs.Requests.{Request}
 use Rattle.demands.specs.AnyOrder.{Between, Begins, worked}
-use Rattle.demands.proofs.Lent.{or-first, or-second, told, not-is}
+use Rattle.judges.proofs.Fits.{told}
+use Rattle.demands.proofs.Lent.{or-first, or-second, not-is}
 use Rattle.demands.proofs.AnyOrderMarks.{legal-none}
 use Rattle.demands.proofs.AnyOrderAt.{Opening, frameAt, Fit, unitWith, memoryAt}
 use Rattle.demands.proofs.AnyOrderJobs.{none-filters, none-work}

@@ -1,13 +1,15 @@
--- Any request that may come between open and close takes the memory at some marks to the memory at some marks: a refused one leaves it, and an
--- accepted job adds its mark. Assumes nothing.
-use mathlib.Core.Path.{_≡_, refl, ap}
+-- Any request that may come between open and close takes the memory at some marks to the memory at some marks: one that is declined leaves
+-- it, and an accepted job adds its mark. Assumes nothing.
+use Prim.Native.Nat.{ℕ}
+use mathlib.Core.Path.{_≡_, refl, ap, _∙_}
 use mathlib.Core.Bool.{Bool, true, false, not, _&&_}
 use mathlib.Core.List.{List, [], _∷_}
 use mathlib.Core.Logic.{_⊎_, inl, inr}
 use native.Mathlib.Omega.{arith}
-use borrow.Author.Tests.{ltb-true}
+use borrow.Author.Tests.{ltb-true, eqb-true}
+use lib.Dec.{eqb}
 use lib.Ieee.{Float}
-use lib.ListN.{set}
+use lib.ListN.{set, take}
 use Rattle.samples.specs.declared.Answer.the-variants.{Accepted}
 use Rattle.samples.specs.Answers.{accepted}
 use Rattle.samples.proofs.Laws.{split-and, is-accepted, accept-no}
@@ -15,32 +17,54 @@ use Rattle.unit.specs.Layout.{Model, mixMark, lineMark, outputMark}
 use Rattle.judges.specs.Marks.{allRead}
 use Rattle.machine.specs.Jobs.{Job, readJob, mixJob, lineJob, outputJob, markOf}
 use Rattle.machine.specs.Ending.{Memory, Ending}
-use Rattle.machine.specs.Calls.{ending, Call, job, answer, after}
-use Rattle.machine.specs.Requests.{Slice, own, other, lent, left, Request, fresh, ask, seen, refusal, answerOf, request, requests}
+use Rattle.machine.specs.Calls.{ending, Call, reset, whole, frames, start, job, close, abandon, answer, after}
+use Rattle.machine.specs.Requests.{Slice, own, other, lent, left, Request, fresh, ask, seen, refusal, answerOf, request, requests, doneBefore, declined}
+use Rattle.demands.specs.Several.{appliesOf, afterAll}
+use Rattle.demands.specs.Refusals.{soFar}
 use Rattle.demands.specs.AnyOrder.{OwnJob, own-job, Between}
-use Rattle.demands.proofs.Lent.{told, not-is}
+use Rattle.judges.proofs.Fits.{told}
+use Rattle.demands.proofs.Lent.{not-is}
 use Rattle.demands.proofs.Refused.{refusal-changes-nothing, refused-fresh}
 use Rattle.demands.proofs.AnyOrderMarks.{at, Legal, legal-set}
 use Rattle.demands.proofs.AnyOrderAt.{Opening, Fit, unitWith, memoryAt}
 use Rattle.demands.proofs.AnyOrderJobs.{read-filters, read-work, mix-filters, mix-work, line-filters, line-work, output-filters, output-work}
 
--- ---- a refusal of 1 to 8
+-- ---- a refusal of 1 to 8 with no frame done
 
-call-stays : (m : Model) (w : Memory) (c : Call) → refusal (answer m w c) ≡ true → after m w c ≡ w
-call-stays m w c e = ap (λ (x : Ending). x .memory) (refusal-changes-nothing m w c e)
+nothing-done : (m : Model) (w : Memory) (c : Call) → doneBefore m w c ≡ 0 → soFar m w c ≡ w
+unfolding afterAll
+nothing-done m w reset e = refl
+nothing-done m w (whole p output) e = refl
+nothing-done m w (frames t coefficients input output) e = ap (λ (k : ℕ). afterAll m w (take k (appliesOf w t coefficients input output))) e
+nothing-done m w (start p) e = refl
+nothing-done m w (job j) e = refl
+nothing-done m w (close output) e = refl
+nothing-done m w abandon e = refl
+
+call-stays : (m : Model) (w : Memory) (c : Call) → doneBefore m w c ≡ 0 → refusal (answer m w c) ≡ true → after m w c ≡ w
+call-stays m w c d e = ap (λ (x : Ending). x .memory) (refusal-changes-nothing m w c e) ∙ nothing-done m w c d
 
 -- what was lent and is left as it was
 pub left-same : (s : Slice) (mine : List Float) {new : List Float} → new ≡ lent s mine → left s new mine ≡ mine
 left-same own mine e = e
 left-same (other xs) mine e = refl
 
-pub stays : (m : Model) (w : Memory) (r : Request) → refusal (answerOf m w r) ≡ true → request m w r ≡ w
-unfolding answerOf request
+-- what a call that is declined tells
+pub declined-told : (m : Model) (w : Memory) (c : Call) (s k : Slice) → declined m w (ask c s k) ≡ true
+    → (doneBefore m (seen w s k) c ≡ 0) × (refusal (answer m (seen w s k) c) ≡ true)
+unfolding answerOf declined
+declined-told m w c s k e =
+    let d = split-and (eqb (doneBefore m (seen w s k) c) 0) (refusal (answer m (seen w s k) c)) e in
+    (eqb-true _ 0 (d .0), d .1)
+
+pub stays : (m : Model) (w : Memory) (r : Request) → declined m w r ≡ true → request m w r ≡ w
+unfolding answerOf declined request
 stays m w (fresh rate frame s) e =
     let es = ap (λ (x : Ending). x .memory .store) (refused-fresh m rate frame (lent s (w .store)) e) in
     λ t. record { unit = w .unit; store = left-same s (w .store) es t; work = w .work }
 stays m w (ask c s k) e =
-    let q = call-stays m (seen w s k) c e in
+    let d = declined-told m w c s k e in
+    let q = call-stays m (seen w s k) c (d .0) (d .1) in
     λ t. record { unit = q t .unit; store = left-same s (w .store) (λ i. q i .store) t; work = left-same k (w .work) (λ i. q i .work) t }
 
 -- ---- where a request leads
@@ -108,7 +132,7 @@ module _ (m : Model) (o : Opening) where
         go true e = let d = done j (is-accepted _ e) in record { to = set marks (markOf m j) true; legal = d .0; is = d .1 }
         go false e = record { to = marks; legal = g; is = accept-no (answer m w (job j)) _ w e }
 
-    one : (r : Request) → OwnJob r ⊎ (refusal (answerOf m w r) ≡ true) → Goes (request m w r)
+    one : (r : Request) → OwnJob r ⊎ (declined m w r ≡ true) → Goes (request m w r)
     unfolding request
     one r (inl (own-job j)) = either j
     one r (inr e) = record { to = marks; legal = g; is = stays m w r e }

@@ -7,6 +7,7 @@ face-determined = record {
   fresh = λ κs a x y s t p q. (p .0 ∙ sym (q .0), p .1 ∙ sym (q .1));
   reset = λ κs a x y s t p q. (p .0 ∙ sym (q .0), p .1 ∙ sym (q .1));
   apply = λ κs a x y s t p q. (p .0 ∙ sym (q .0), p .1 .0 ∙ sym (q .1 .0), p .1 .1 .0 ∙ sym (q .1 .1 .0), p .1 .1 .1 ∙ sym (q .1 .1 .1));
+  apply-frames = λ κs a x y s t p q. (p .0 ∙ sym (q .0), p .1 .0 ∙ sym (q .1 .0), p .1 .1 .0 ∙ sym (q .1 .1 .0), p .1 .1 .1 ∙ sym (q .1 .1 .1));
   tail = λ κs a x y s t p q. (p .0 ∙ sym (q .0), p .1 .0 ∙ sym (q .1 .0), p .1 .1 .0 ∙ sym (q .1 .1 .0), p .1 .1 .1 ∙ sym (q .1 .1 .1));
   interleave = λ κs a x y s t p q. (p .0 ∙ sym (q .0), p .1 ∙ sym (q .1));
   deinterleave = λ κs a x y s t p q. (p .0 ∙ sym (q .0), p .1 ∙ sym (q .1));

@@ -123,6 +123,9 @@ library-determined = record {
     judge-reset = λ κs a x y s t p q. p ∙ sym q;
     judge-tail = λ κs a x y s t p q. p ∙ sym q;
     judge-apply = λ κs a x y s t p q. p ∙ sym q;
+    judge-frames = λ κs a x y s t p q. p ∙ sym q;
+    frame-count = λ κs a x y s t p q. p ∙ sym q;
+    judge-input = λ κs a x y s t p q. p ∙ sym q;
     judge-open-apply = λ κs a x y s t p q. p ∙ sym q;
     judge-open-tail = λ κs a x y s t p q. p ∙ sym q;
     judge-read = λ κs a x y s t p q. p ∙ sym q;
@@ -158,6 +161,7 @@ library-determined = record {
     fresh = λ κs a x y s t p q. (p .0 ∙ sym (q .0), p .1 ∙ sym (q .1));
     reset = λ κs a x y s t p q. (p .0 ∙ sym (q .0), p .1 ∙ sym (q .1));
     apply = λ κs a x y s t p q. (p .0 ∙ sym (q .0), p .1 .0 ∙ sym (q .1 .0), p .1 .1 .0 ∙ sym (q .1 .1 .0), p .1 .1 .1 ∙ sym (q .1 .1 .1));
+    apply-frames = λ κs a x y s t p q. (p .0 ∙ sym (q .0), p .1 .0 ∙ sym (q .1 .0), p .1 .1 .0 ∙ sym (q .1 .1 .0), p .1 .1 .1 ∙ sym (q .1 .1 .1));
     tail = λ κs a x y s t p q. (p .0 ∙ sym (q .0), p .1 .0 ∙ sym (q .1 .0), p .1 .1 .0 ∙ sym (q .1 .1 .0), p .1 .1 .1 ∙ sym (q .1 .1 .1));
     filters-of = λ κs a x y s t p q. p ∙ sym q;
   };

@@ -9,7 +9,7 @@ use Rattle.unit.specs.Fresh.{noFrame}
 use Rattle.machine.specs.Ending.{Memory, Ending}
 use Rattle.machine.specs.Jobs.{Job}
 use Rattle.machine.specs.Calls.{reset, job, close, ending, answer, after}
-use Rattle.machine.specs.Requests.{Slice, Request, ask, seen, back, answerOf, refusal, request, requests}
+use Rattle.machine.specs.Requests.{Slice, Request, ask, seen, back, answerOf, request, requests, declined}
 use Rattle.demands.specs.AnyOrder.{Begins}
 use Rattle.demands.specs.LineLaw.{by-reset}
 use Rattle.demands.specs.Refusals.{givenBack}
@@ -82,7 +82,7 @@ module _ (m : Model) (w : Memory) where
   jobs-open v [] b h = h
   jobs-open v (r ∷ rs) b h = jobs-open (request m v r) rs (b .1) (one r (b .0))
     where
-      one : (r : Request) → AnyJob r ⊎ (refusal (answerOf m v r) ≡ true) → Open w (request m v r)
+      one : (r : Request) → AnyJob r ⊎ (declined m v r ≡ true) → Open w (request m v r)
       one r (inl (any-job j s k)) = job-open v j s k h
       one r (inr e) = rw (stays m v r e) h
 

@@ -25,14 +25,16 @@ use Rattle.stages.specs.Settle.{filtersFinite, frameFinite, putRows}
 use Rattle.rows.specs.Rows.{Rows, rowsOf}
 use Rattle.frame.specs.Parts.{rowsFinite}
 use Rattle.machine.specs.Ending.{Memory, Ending}
-use Rattle.machine.specs.Whole.{begun, frameFor}
+use Rattle.machine.specs.Whole.{begun, Play, frameFor, atOnce}
 use Rattle.machine.proofs.Cases.{whole-either, close-either}
+use Rattle.machine.proofs.SeveralCases.{several-keeps}
 use Rattle.machine.specs.Jobs.{jobFilters}
-use Rattle.machine.specs.Calls.{ending, Call, reset, whole, start, job, close, abandon, answer, after}
+use Rattle.machine.specs.Calls.{ending, Call, reset, whole, frames, start, job, close, abandon, answer, after}
 use Rattle.machine.specs.Requests.{Slice, own, other, lent, left, Request, fresh, ask, seen, request}
 use Rattle.machine.specs.Runs.{Event, anew, asked, afresh, run}
 use Rattle.demands.specs.Demands.{keptFilters, KeptNumbers, KeptFinite}
-use Rattle.demands.proofs.Lent.{told, whole-lent, close-lent, job-busy}
+use Rattle.judges.proofs.Fits.{told}
+use Rattle.demands.proofs.Lent.{whole-lent, close-lent, job-busy}
 use Rattle.demands.proofs.AnyOrderOpen.{opened-told}
 
 -- ---- what is put into finite rings leaves them finite
@@ -113,10 +115,8 @@ module _ (m : Model) where
   abbrev FineIn : Memory → Type 0
   FineIn w = Fine (w .unit)
 
-  call-fine : (w : Memory) (c : Call) → FineIn w → FineIn (after m w c)
-  unfolding ending
-  call-fine w reset h = accept-either FineIn (answer m w reset) (λ e. h) (λ n. h)
-  call-fine w (whole p output) h =
+  whole-fine : (w : Memory) (p : Play) (output : List Float) → FineIn w → FineIn (atOnce m w p output .memory)
+  whole-fine w p output h =
       let u = w .unit in
       whole-either m w output (λ (x : Ending). FineIn (x .memory)) p
       (λ d q.
@@ -124,6 +124,12 @@ module _ (m : Model) where
       fine-now (u .held .busy) (u .held .before) _ free (judged-finite (frameFor m u p (w .store)) q .filters))
       (λ d q. h)
       (λ n. h)
+
+  call-fine : (w : Memory) (c : Call) → FineIn w → FineIn (after m w c)
+  unfolding ending
+  call-fine w reset h = accept-either FineIn (answer m w reset) (λ e. h) (λ n. h)
+  call-fine w (whole p output) h = whole-fine w p output h
+  call-fine w (frames t coefficients input output) h = several-keeps m FineIn whole-fine t coefficients w input output h
   call-fine w (start p) h = accept-either FineIn (answer m w (start p)) (λ e. now (w .unit) (opened-told m w p e .free) h) (λ n. h)
   call-fine w (job j) h =
       accept-either FineIn (answer m w (job j))
@@ -149,10 +155,14 @@ module _ (m : Model) where
   unfolding filtersFinite
   none-held = finite-blank (filtersLen m) 0
 
+  whole-held : (w : Memory) (p : Play) (output : List Float) → HeldIn w → HeldIn (atOnce m w p output .memory)
+  whole-held w p output h = whole-either m w output (λ (x : Ending). HeldIn (x .memory)) p (λ d q. h) (λ d q. h) (λ n. h)
+
   call-held : (w : Memory) (c : Call) → FineIn w → HeldIn w → HeldIn (after m w c)
   unfolding ending
   call-held w reset f h = accept-either HeldIn (answer m w reset) (λ e. h) (λ n. h)
-  call-held w (whole p output) f h = whole-either m w output (λ (x : Ending). HeldIn (x .memory)) p (λ d q. h) (λ d q. h) (λ n. h)
+  call-held w (whole p output) f h = whole-held w p output h
+  call-held w (frames t coefficients input output) f h = several-keeps m HeldIn whole-held t coefficients w input output h
   call-held w (start p) f h = accept-either HeldIn (answer m w (start p)) (λ e. now (w .unit) (opened-told m w p e .free) f) (λ n. h)
   call-held w (job j) f h = accept-either HeldIn (answer m w (job j)) (λ e. h) (λ n. h)
   call-held w (close output) f h =
@@ -168,15 +178,19 @@ module _ (m : Model) where
   abbrev Sound : Memory → Type 0
   Sound v = allFinite (v .store) ≡ true
 
-  call-finite : (w : Memory) (c : Call) → Sound w → Sound (after m w c)
-  unfolding ending
-  call-finite w reset h = accept-either Sound (answer m w reset) (λ e. finite-zeros (length (w .store))) (λ n. h)
-  call-finite w (whole p output) h =
+  whole-finite : (w : Memory) (p : Play) (output : List Float) → Sound w → Sound (atOnce m w p output .memory)
+  whole-finite w p output h =
       let r = frameFor m (w .unit) p (w .store) in
       whole-either m w output (λ (x : Ending). Sound (x .memory)) p
       (λ d q. let k = judged-finite r q in finite-put _ _ 0 _ _ (r .lines .put) (r .output .rings) (w .store) (k .put) (k .rings) h)
       (λ d q. h)
       (λ n. h)
+
+  call-finite : (w : Memory) (c : Call) → Sound w → Sound (after m w c)
+  unfolding ending
+  call-finite w reset h = accept-either Sound (answer m w reset) (λ e. finite-zeros (length (w .store))) (λ n. h)
+  call-finite w (whole p output) h = whole-finite w p output h
+  call-finite w (frames t coefficients input output) h = several-keeps m Sound whole-finite t coefficients w input output h
   call-finite w (start p) h = accept-either Sound (answer m w (start p)) (λ e. h) (λ n. h)
   call-finite w (job j) h = accept-either Sound (answer m w (job j)) (λ e. h) (λ n. h)
   call-finite w (close output) h =

@@ -9,8 +9,8 @@ use lib.Dec.{eqb}
 use lib.Ieee.{Float}
 use lib.ListN.{length, getD, length-replicate}
 use Rattle.samples.specs.declared.Answer.{Answer}
-use Rattle.samples.specs.declared.Answer.the-variants.{Accepted, BadState, BadSize, BadLength, BadIndex, OutOfTurn}
-use Rattle.samples.specs.Answers.{need, orElse}
+use Rattle.samples.specs.declared.Answer.the-variants.{Accepted, BadSize, BadLength}
+use Rattle.samples.specs.Answers.{orElse}
 use Rattle.samples.specs.Binary32.{+0}
 use Rattle.samples.specs.Sizes.{rateOk, frameOk}
 use Rattle.samples.proofs.Laws.{split-and, needed, all-at}
@@ -22,7 +22,8 @@ use Rattle.unit.specs.Layout.{Model, lengths, storeLen, workLen, coefficientsLe
 use Rattle.unit.specs.Fresh.{freshUnit}
 use Rattle.unit.specs.Range.{inRange, below, cursorsIn}
 use Rattle.unit.specs.Room.{lentOk}
-use Rattle.judges.specs.Judges.{judged, judgedFresh, judgedReset, judgedGiven, givenOk, storeOk, workOk}
+use Rattle.judges.specs.Judges.{judgedFresh, judgedReset, judgedGiven, givenOk, storeOk, workOk}
+use Rattle.judges.proofs.Fits.{told}
 use Rattle.stages.specs.Frame.{frameIn}
 use Rattle.stages.proofs.FrameLaws.{put-beside}
 use Rattle.judges.specs.Marks.{allDone}
@@ -37,20 +38,6 @@ or-first a b e = accept-either (λ (x : Answer). x ≡ Accepted → a ≡ Accept
 
 pub or-second : (a b : Answer) → orElse a b ≡ Accepted → b ≡ Accepted
 or-second a b e = let p = or-first a b e in rw p at e
-
-pub record Told (m : Model) (u : UnitState) (slices line turn : Bool) : Type 0 where
-  pub range : inRange m u ≡ true
-  pub slices-ok : slices ≡ true
-  pub line-ok : line ≡ true
-  pub on-turn : turn ≡ true
-
-pub told : (m : Model) (u : UnitState) (slices line turn : Bool) → judged m u slices line turn ≡ Accepted → Told m u slices line turn
-unfolding judged
-told m u slices line turn e =
-    let p = needed (inRange m u) BadState (need slices BadLength (need line BadIndex (need turn OutOfTurn Accepted))) refl e in
-    let q = needed slices BadLength (need line BadIndex (need turn OutOfTurn Accepted)) refl (p .1) in
-    let r = needed line BadIndex (need turn OutOfTurn Accepted) refl (q .1) in
-    record { range = p .0; slices-ok = q .0; line-ok = r .0; on-turn = needed turn OutOfTurn Accepted refl (r .1) .0 }
 
 pub not-is : (b : Bool) → not b ≡ true → b ≡ false
 not-is true e = sym e

@@ -4,12 +4,16 @@ pub mod DeterminedProgram
 pub mod RefusedParts
 pub mod Examples
 pub mod Lent
+pub mod Several
 pub mod Refused
+pub mod SeveralLeaves
+pub mod SeveralAll
 pub mod TheCalls
 pub mod LineRings
 pub mod LineTurn
 pub mod AnyOrderMarks
 pub mod AnyOrderFrame
+pub mod SeveralStops
 pub mod AnyOrderAt
 pub mod AnyOrderJobs
 pub mod AnyOrderRequests

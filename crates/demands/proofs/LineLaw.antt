@@ -1,6 +1,6 @@
 -- A line hands out what it was given its length earlier. The invariant: L times +0 and all that it was given are what it handed out and then
 -- its view; and while a frame is open in which it was read, the row that waits is what the ring still holds there. Assumes nothing.
-use Prim.Native.Nat.{ℕ, _+_, _*_, _<_, _≤_}
+use Prim.Native.Nat.{ℕ, zero, suc, _*_, _/_, _<_, _≤_}
 use mathlib.Core.Path.{_≡_, refl, sym, ap, _∙_}
 use mathlib.Core.Bool.{Bool, true, false, _&&_, cond}
 use mathlib.Core.List.{List, [], _∷_, _++_, append-nil, append-assoc}
@@ -18,6 +18,7 @@ use Rattle.samples.specs.declared.Answer.the-variants.{Accepted}
 use Rattle.samples.specs.Answers.{accept, accepted}
 use Rattle.samples.specs.Binary32.{+0}
 use Rattle.samples.proofs.Laws.{split-and, is-accepted, accept-no}
+use Rattle.bands.specs.declared.Times.{Times}
 use Rattle.delay.specs.Calls.{both}
 use Rattle.delay.proofs.Laws.{accept-either, rotl-same}
 use Rattle.unit.specs.UnitState.{UnitState}
@@ -26,22 +27,24 @@ use Rattle.unit.specs.Fresh.{freshUnit}
 use Rattle.judges.specs.Judges.{storeOk, workOk}
 use Rattle.stages.specs.Frame.{frameIn, newFilters}
 use Rattle.stages.specs.Settle.{allMoved, putRows}
-use Rattle.machine.specs.Whole.{counted, movedOn, Play, countFor, frameFor, wholeDue}
+use Rattle.machine.specs.Whole.{counted, movedOn, Play, apply, countFor, frameFor, wholeDue, atOnce}
+use Rattle.machine.specs.Several.{Several, singly, framesDue}
 use Rattle.judges.specs.Marks.{marked}
 use Rattle.judges.specs.Turns.{judgedClose}
 use Rattle.rows.specs.Rows.{rowsOf}
 use Rattle.machine.specs.Jobs.{unitOpened, unitMarked, readRow, unitClosed, unitShut, Job, readJob, mixJob, lineJob, outputJob, jobWork}
 use Rattle.machine.specs.Ending.{Memory, Ending, refused}
 use Rattle.machine.proofs.Cases.{whole-either, close-either}
-use Rattle.machine.specs.Calls.{ending, Call, reset, whole, start, job, close, abandon, answer, after}
-use Rattle.machine.specs.Requests.{Slice, own, other, lent, left, Request, fresh, ask, seen, refusal, answerOf, request}
-use Rattle.demands.specs.LineLaw.{Account, traded, noted, account, Plays, plays-whole, plays-start, plays-job, plays-close, plays-abandon}
+use Rattle.machine.specs.Calls.{ending, Call, reset, whole, frames, start, job, close, abandon, answer, after}
+use Rattle.machine.specs.Requests.{Slice, own, other, lent, left, Request, fresh, ask, seen, refusal, request, doneBefore, declined}
+use Rattle.demands.specs.LineLaw.{Account, traded, notedWhole, notedFrames, noted, account, Plays, plays-whole, plays-frames, plays-start, plays-job, plays-close, plays-abandon}
 use Rattle.demands.specs.LineLaw.{AllPlay, Silent, freshly, by-reset, LineLaw}
-use Rattle.demands.proofs.Lent.{told, fresh-long, Lent, reset-lent, whole-lent, close-lent, whole-put, cursors, within}
+use Rattle.judges.proofs.Fits.{told}
+use Rattle.demands.proofs.Lent.{fresh-long, Lent, reset-lent, whole-lent, close-lent, whole-put, cursors, within}
 use Rattle.demands.proofs.LineRings.{ring-same, read-row, lines-held, length-moved}
 use Rattle.demands.proofs.LineTurn.{Turn, view, held, read-long, equal-moved, ring-turn, work-rows, read-left}
 use Rattle.demands.proofs.AnyOrderMarks.{true≢false, set-there, done-at}
-use Rattle.demands.proofs.AnyOrderRequests.{stays}
+use Rattle.demands.proofs.AnyOrderRequests.{declined-told, stays}
 use Rattle.demands.proofs.Refused.{refused-no}
 
 -- of line i, whose length is l
@@ -183,7 +186,7 @@ module _ (m : Model) (i : ℕ) (h : i < m .lines) (l : ℕ) where
     refused-holds read put due output n = rw (accept-no due (traded a read put) a n) inv
 
     whole-holds : (p : Play) (output : List Float) → Then (whole p output)
-    unfolding ending noted
+    unfolding ending noted notedWhole
     whole-holds p output =
         let r = frameFor m u p (w .store) in
         let f = u .settings .frame in
@@ -257,6 +260,42 @@ module _ (m : Model) (i : ℕ) (h : i < m .lines) (l : ℕ) where
     job-holds outputJob =
         accept-either Stands (answer m w (job outputJob)) (λ e. other-job u (outputMark m) (w .store) a inv (λ q. omega arith)) (λ n. inv)
 
+  -- ---- several frames at once
+
+  -- a whole call that is refused isn't noted
+  not-noted : (w : Memory) (a : Account) (p : Play) (output : List Float) → accepted (answer m w (whole p output)) ≡ false → notedWhole m i w a p output ≡ a
+  unfolding notedWhole
+  not-noted w a p output n = accept-no (answer m w (whole p output)) _ a n
+
+  module _ (t : Times) (coefficients : List Float) (f : ℕ) where
+    -- after the frames of x, noted one by one
+    abbrev Through : Memory → Account → List Float → List Float → Several → Type 0
+    Through w a input output x =
+        Holds (x .ending .memory .unit) (x .ending .memory .store) (notedFrames m i t coefficients f (x .done) w a input output)
+
+    singly-holds : (n : ℕ) (w : Memory) (a : Account) (input output : List Float) → Holds (w .unit) (w .store) a
+        → Through w a input output (singly m t coefficients f n w input output)
+    unfolding ending noted notedFrames singly
+    singly-holds zero w a input output inv = inv
+    singly-holds (suc n) w a input output inv =
+        let p = apply t coefficients (take f input) in
+        let o = take f output in
+        let e = atOnce m w p o in
+        let then = whole-holds w a inv p o in
+        accept-either (Through w a input output) (e .answer)
+        (λ d. singly-holds n (e .memory) (notedWhole m i w a p o) (drop f input) (drop f output) then)
+        (λ r. rw (not-noted w a p o r) at then)
+
+  frames-holds : (w : Memory) (a : Account) (t : Times) (coefficients input output : List Float) → Holds (w .unit) (w .store) a
+      → let c = frames t coefficients input output in
+      Holds (after m w c .unit) (after m w c .store) (noted m i w a c)
+  unfolding ending noted notedFrames
+  frames-holds w a t coefficients input output inv =
+      let f = w .unit .settings .frame in
+      accept-either (Through t coefficients f w a input output)
+      (framesDue m w t coefficients input output)
+      (λ d. singly-holds t coefficients f (length input / f) w a input output inv) (λ r. inv)
+
   -- ---- requests
 
   -- the account after one
@@ -264,30 +303,31 @@ module _ (m : Model) (i : ℕ) (h : i < m .lines) (l : ℕ) where
   entered w a (fresh rate frame s) = a
   entered w a (ask c s k) = noted m i (seen w s k) a c
 
-  -- a refused one enters nothing
+  -- one that changes nothing enters nothing
   refused-same : (x : Answer) (new a : Account) → refusal x ≡ true → accept x new a ≡ a
   refused-same x new a e = accept-no x new a (refused-no x e)
 
-  nothing-noted : (w : Memory) (a : Account) (c : Call) → refusal (answer m w c) ≡ true → noted m i w a c ≡ a
-  unfolding noted
-  nothing-noted w a reset e = refl
-  nothing-noted w a (whole p output) e = refused-same (answer m w (whole p output)) _ a e
-  nothing-noted w a (start p) e = refl
-  nothing-noted w a (job (readJob j)) e = either (eqb j i) (refused-same (answer m w (job (readJob j))) _ a e)
+  nothing-noted : (w : Memory) (a : Account) (c : Call) → doneBefore m w c ≡ 0 → refusal (answer m w c) ≡ true → noted m i w a c ≡ a
+  unfolding noted notedFrames
+  nothing-noted w a reset d e = refl
+  nothing-noted w a (whole p output) d e = not-noted w a p output (refused-no (answer m w (whole p output)) e)
+  nothing-noted w a (frames t coefficients input output) d e =
+      ap (λ (n : ℕ). notedFrames m i t coefficients (w .unit .settings .frame) n w a input output) d
+  nothing-noted w a (start p) d e = refl
+  nothing-noted w a (job (readJob j)) d e = either (eqb j i) (refused-same (answer m w (job (readJob j))) _ a e)
     where
       either : (b : Bool) {x : Account} → x ≡ a → cond b x a ≡ a
       either true q = q
       either false q = refl
-  nothing-noted w a (job mixJob) e = refl
-  nothing-noted w a (job (lineJob j)) e = refl
-  nothing-noted w a (job outputJob) e = refl
-  nothing-noted w a (close output) e = refused-same (answer m w (close output)) _ a e
-  nothing-noted w a abandon e = refl
+  nothing-noted w a (job mixJob) d e = refl
+  nothing-noted w a (job (lineJob j)) d e = refl
+  nothing-noted w a (job outputJob) d e = refl
+  nothing-noted w a (close output) d e = refused-same (answer m w (close output)) _ a e
+  nothing-noted w a abandon d e = refl
 
-  nothing-entered : (w : Memory) (a : Account) (r : Request) → refusal (answerOf m w r) ≡ true → entered w a r ≡ a
-  unfolding answerOf
+  nothing-entered : (w : Memory) (a : Account) (r : Request) → declined m w r ≡ true → entered w a r ≡ a
   nothing-entered w a (fresh rate frame s) e = refl
-  nothing-entered w a (ask c s k) e = nothing-noted (seen w s k) a c e
+  nothing-entered w a (ask c s k) e = let d = declined-told m w c s k e in nothing-noted (seen w s k) a c (d .0) (d .1)
 
   -- what is lent and left as it was
   left-lent : (s : Slice) (mine : List Float) → left s (lent s mine) mine ≡ mine
@@ -298,6 +338,7 @@ module _ (m : Model) (i : ℕ) (h : i < m .lines) (l : ℕ) where
       → Holds (request m w r .unit) (request m w r .store) (entered w a r)
   unfolding request ending noted
   plays-holds w a r (plays-whole p output k) inv = whole-holds (seen w own k) a inv p output
+  plays-holds w a r (plays-frames t coefficients input output k) inv = frames-holds (seen w own k) a t coefficients input output inv
   plays-holds w a r (plays-start p s k) inv =
       accept-either (λ (v : Memory). Holds (v .unit) (left s (v .store) (w .store)) a) (answer m (seen w s k) (start p))
       (λ e. rw (left-lent s (w .store)) (opened-holds (w .unit) p (w .store) a inv))
@@ -309,7 +350,7 @@ module _ (m : Model) (i : ℕ) (h : i < m .lines) (l : ℕ) where
       (λ e. rw (left-lent s (w .store)) (shut-holds (w .unit) (w .store) a inv))
       (λ n. rw (left-lent s (w .store)) inv)
 
-  one-holds : (w : Memory) (a : Account) (r : Request) → Plays r ⊎ (refusal (answerOf m w r) ≡ true) → Holds (w .unit) (w .store) a
+  one-holds : (w : Memory) (a : Account) (r : Request) → Plays r ⊎ (declined m w r ≡ true) → Holds (w .unit) (w .store) a
       → Holds (request m w r .unit) (request m w r .store) (entered w a r)
   one-holds w a r (inl p) inv = plays-holds w a r p inv
   one-holds w a r (inr e) inv = rw (stays m w r e, nothing-entered w a r e) inv

@@ -34,14 +34,16 @@ use Rattle.stages.proofs.RowLaws.{length-filtersOf, length-bandEnds}
 use Rattle.rows.specs.Parts.{lineEnds}
 use Rattle.outputs.specs.Steps.{outputEnds}
 use Rattle.machine.specs.Ending.{Memory, Ending}
-use Rattle.machine.specs.Whole.{counted, Play, apply, tail, filtersFor, frameFor}
+use Rattle.machine.specs.Whole.{counted, Play, apply, tail, filtersFor, frameFor, atOnce}
 use Rattle.machine.specs.Jobs.{Job, readJob, mixJob, lineJob, outputJob, jobFilters, unitShut}
-use Rattle.machine.specs.Calls.{Call, reset, whole, start, job, close, abandon, ending, answer, after}
+use Rattle.machine.specs.Calls.{Call, reset, whole, frames, start, job, close, abandon, ending, answer, after}
 use Rattle.machine.specs.Requests.{Request, fresh, ask, seen, request}
 use Rattle.machine.specs.Runs.{Event, anew, asked, afresh, run}
 use Rattle.machine.proofs.Cases.{whole-either, close-either}
+use Rattle.machine.proofs.SeveralCases.{several-keeps}
 use Rattle.demands.specs.FromFresh.{Built, Reached, StaysInRange}
-use Rattle.demands.proofs.Lent.{told, job-busy, whole-lent}
+use Rattle.judges.proofs.Fits.{told}
+use Rattle.demands.proofs.Lent.{job-busy, whole-lent}
 use Rattle.demands.proofs.LineRings.{length-moved}
 use Rattle.demands.proofs.AnyOrderMarks.{true≢false}
 
@@ -216,17 +218,8 @@ module _ (m : Model) (built : Built m) where
   unfolding inRange blankOpen
   reset-range u h = h .range
 
-  call-reached : (w : Memory) (c : Call) → In w → In (after m w c)
-  unfolding ending
-  call-reached w reset h =
-      accept-either In (answer m w reset)
-      (λ e. record {
-        sized = record { lines = h .sized .lines; passes = h .sized .passes; filters = h .sized .filters; marks = h .sized .marks; before = h .sized .before };
-        range = reset-range (w .unit) h;
-        free = h .free;
-      })
-      (λ n. h)
-  call-reached w (whole p output) h =
+  whole-reached : (w : Memory) (p : Play) (output : List Float) → In w → In (atOnce m w p output .memory)
+  whole-reached w p output h =
       let u = w .unit in
       whole-either m w output (λ (x : Ending). In (x .memory)) p
       (λ d q.
@@ -237,6 +230,19 @@ module _ (m : Model) (built : Built m) where
       (new-long m u p (w .store)) free)
       (λ d q. h)
       (λ n. h)
+
+  call-reached : (w : Memory) (c : Call) → In w → In (after m w c)
+  unfolding ending
+  call-reached w reset h =
+      accept-either In (answer m w reset)
+      (λ e. record {
+        sized = record { lines = h .sized .lines; passes = h .sized .passes; filters = h .sized .filters; marks = h .sized .marks; before = h .sized .before };
+        range = reset-range (w .unit) h;
+        free = h .free;
+      })
+      (λ n. h)
+  call-reached w (whole p output) h = whole-reached w p output h
+  call-reached w (frames t coefficients input output) h = several-keeps m In whole-reached t coefficients w input output h
   call-reached w (start p) h =
       accept-either In (answer m w (start p))
       (λ e. record {

@@ -8,14 +8,15 @@ use Rattle.samples.specs.declared.Answer.{Answer}
 use Rattle.samples.specs.Answers.{accept, accepted}
 use Rattle.samples.proofs.Laws.{is-accepted, accept-no}
 use Rattle.unit.specs.declared.Outcome.{Outcome}
+use Rattle.unit.specs.declared.FramesOutcome.{FramesOutcome}
 use Rattle.unit.specs.Layout.{wall}
 use Rattle.unit.specs.Fresh.{leastUnit}
 use Rattle.machine.specs.Ending.{Memory, Ending, outcomeOf, refused, quietly}
 use Rattle.machine.specs.Calls.{ending}
 use Rattle.machine.specs.Requests.{refusal}
-use Rattle.demands.specs.Refusals.{outputOf}
+use Rattle.demands.specs.Refusals.{soFar, outputSoFar}
 use Rattle.demands.specs.Contracts.{leaving, Function, EndsAsCall, RefusedLeaves, FailedGivesBack}
-use Rattle.demands.specs.TheCalls.{asReset, asApply, asTail, asOpenApply, asOpenTail, asJobRead, asJobMix, asJobLine, asJobOutput, asClose, asAbandon}
+use Rattle.demands.specs.TheCalls.{asReset, asApply, asApplyFrames, asTail, asOpenApply, asOpenTail, asJobRead, asJobMix, asJobLine, asJobOutput, asClose, asAbandon}
 use Rattle.demands.specs.TheCalls.{EachCall, CallsEnd, RefusedCalls, FailedCalls, AbandonedCall, FreshEnds, RefusedFreshCall}
 use Rattle.demands.proofs.Refused.{refusal-changes-nothing, failure-gives-back, abandon-gives-back, refused-fresh}
 
@@ -71,6 +72,7 @@ unfolding ending
 calls-end = record {
   reset = λ κs a x s p rest. no-work _ _ _ rest (p .0) (p .1);
   apply = λ κs a x s p rest. all-of _ (p .0) (p .1 .0) (p .1 .1 .0) (p .1 .1 .1);
+  applyFrames = λ κs a x s p rest. all-of _ (ap (λ (r : FramesOutcome). r .outcome) (p .0)) (p .1 .0) (p .1 .1 .0) (p .1 .1 .1);
   tail = λ κs a x s p rest. all-of _ (p .0) (p .1 .0) (p .1 .1 .0) (p .1 .1 .1);
   openApply = λ κs a x s p rest. store-read _ _ _ refl (p .0) (p .1);
   openTail = λ κs a x s p rest. store-read _ _ _ refl (p .0) (p .1);
@@ -93,7 +95,7 @@ module _ (f : Function) (ends : EndsAsCall f) where
       let w = f .lent κs a rest in
       let c = f .call κs a in
       let e = ends κs a x s p rest in
-      e ∙ refusal-changes-nothing wall w c (ap (λ (y : Ending). refusal (y .answer)) (sym e) ∙ h) ∙ ap (λ (y : Ending). refused (y .answer) w (outputOf c)) (sym e)
+      e ∙ refusal-changes-nothing wall w c (ap (λ (y : Ending). refusal (y .answer)) (sym e) ∙ h) ∙ ap (λ (y : Ending). refused (y .answer) (soFar wall w c) (outputSoFar wall w c)) (sym e)
 
   failed-gives-back : FailedGivesBack f
   failed-gives-back κs a x s p rest h =
@@ -105,6 +107,7 @@ each : {say : Function → Type 0} → ((f : Function) → EndsAsCall f → say 
 each so = record {
   reset = so asReset (calls-end .reset);
   apply = so asApply (calls-end .apply);
+  applyFrames = so asApplyFrames (calls-end .applyFrames);
   tail = so asTail (calls-end .tail);
   openApply = so asOpenApply (calls-end .openApply);
   openTail = so asOpenTail (calls-end .openTail);

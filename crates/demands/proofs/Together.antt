@@ -2,6 +2,7 @@
 use Prim.Native.Nat.{ℕ, zero, suc, _+_, _%_}
 use mathlib.Core.Path.{_≡_, refl, ap}
 use mathlib.Core.List.{List, [], _∷_}
+use lib.Ieee.{Float}
 use lib.ListN.{length, getD, replicate}
 use Rattle.samples.specs.declared.Samples.{Samples}
 use Rattle.delay.specs.declared.Cursors.{Cursors}
@@ -13,8 +14,10 @@ use Rattle.unit.specs.Fresh.{freshUnit}
 use Rattle.judges.specs.Judges.{judgedFresh}
 use Rattle.stages.specs.Settle.{allMoved}
 use Rattle.machine.specs.Ending.{Memory, Ending}
+use Rattle.machine.specs.Whole.{Play, atOnce}
 use Rattle.machine.proofs.Cases.{whole-either, close-either}
-use Rattle.machine.specs.Calls.{ending, Call, reset, whole, start, job, close, abandon, answer, after}
+use Rattle.machine.proofs.SeveralCases.{several-keeps}
+use Rattle.machine.specs.Calls.{ending, Call, reset, whole, frames, start, job, close, abandon, answer, after}
 use Rattle.machine.specs.Requests.{Request, fresh, ask, seen, request}
 use Rattle.machine.specs.Runs.{Event, anew, asked, afresh, run}
 use Rattle.demands.specs.LineLaw.{Together, CursorsTogether}
@@ -59,11 +62,15 @@ module _ (m : Model) where
   abbrev Of : Memory → Type 0
   Of v = Together (v .unit)
 
+  whole-together : (w : Memory) (p : Play) (output : List Float) → Of w → Of (atOnce m w p output .memory)
+  whole-together w p output h =
+      whole-either m w output (λ (x : Ending). Of (x .memory)) p (λ d q. moved (w .unit) _ refl refl h) (λ d q. h) (λ n. h)
+
   call-together : (w : Memory) (c : Call) → Of w → Of (after m w c)
   unfolding ending
   call-together w reset h = accept-either Of (answer m w reset) (λ e. same (w .unit) _ refl refl h) (λ n. h)
-  call-together w (whole p output) h =
-      whole-either m w output (λ (x : Ending). Of (x .memory)) p (λ d q. moved (w .unit) _ refl refl h) (λ d q. h) (λ n. h)
+  call-together w (whole p output) h = whole-together w p output h
+  call-together w (frames t coefficients input output) h = several-keeps m Of whole-together t coefficients w input output h
   call-together w (start p) h = accept-either Of (answer m w (start p)) (λ e. same (w .unit) _ refl refl h) (λ n. h)
   call-together w (job j) h = accept-either Of (answer m w (job j)) (λ e. same (w .unit) _ refl refl h) (λ n. h)
   call-together w (close output) h =

@@ -14,7 +14,7 @@ use Rattle.machine.specs.Ending.{Memory, refused}
 use Rattle.machine.specs.Whole.{Play, wiped, atOnce}
 use Rattle.machine.specs.Jobs.{Job, readJob, mixJob, lineJob, outputJob, closed}
 use Rattle.machine.specs.Calls.{job, start, answer, after}
-use Rattle.machine.specs.Requests.{Request, ask, own, answerOf, request, requests, refusal}
+use Rattle.machine.specs.Requests.{Request, ask, own, request, requests, declined}
 
 -- ---- R8.24: what may come between open and close
 
@@ -26,7 +26,7 @@ pub data OwnJob : Request → Type 0 where
 -- accepted would leave its rows there, and a close or an abandon that is accepted ends the frame
 unfoldable pub Between : Model → Memory → List Request → Type 0
 Between m w [] = Unit {0}
-Between m w (r ∷ rs) = (OwnJob r ⊎ (refusal (answerOf m w r) ≡ true)) × Between m (request m w r) rs
+Between m w (r ∷ rs) = (OwnJob r ⊎ (declined m w r ≡ true)) × Between m (request m w r) rs
 
 -- the unit and its memory after the frame p is opened, and then requests are made
 abbrev pub worked : Model → Memory → Play → List Request → Memory

@@ -13,7 +13,7 @@ use Rattle.unit.specs.Layout.{wall}
 use Rattle.machine.specs.Ending.{Memory, lend, Ending, refused}
 use Rattle.machine.specs.Calls.{Call, ending}
 use Rattle.machine.specs.Requests.{refusal}
-use Rattle.demands.specs.Refusals.{outputOf, givenBack}
+use Rattle.demands.specs.Refusals.{soFar, outputSoFar, givenBack}
 
 -- how a call ended that gave x, and left these in the store, the work memory and the output
 abbrev pub leaving : Outcome → List Float → List Float → List Float → Ending
@@ -44,10 +44,11 @@ Always holds f =
 abbrev pub EndsAsCall : Function → Type 0
 EndsAsCall = Always (λ w c e. e ≡ ending wall w c)
 
--- answered 1 to 8, the state is the one given, and every slice holds what it held
+-- answered 1 to 8, the state is the one given, and every slice holds what it held; of several frames, what those left that were done
 abbrev pub RefusedLeaves : Function → Type 0
-RefusedLeaves = Always (λ w c e. refusal (e .answer) ≡ true → e ≡ refused (e .answer) w (outputOf c))
+RefusedLeaves = Always (λ w c e. refusal (e .answer) ≡ true → e ≡ refused (e .answer) (soFar wall w c) (outputSoFar wall w c))
 
--- answered 9, the state is that from before the frame opened, store and output hold what they held, and the work memory is all +0
+-- answered 9, the state is that from before the frame opened, store and output hold what they held, and the work memory is all +0; of several
+-- frames, of what those left that were done
 abbrev pub FailedGivesBack : Function → Type 0
-FailedGivesBack = Always (λ w c e. e .answer ≡ NotFinite → e ≡ refused NotFinite (givenBack wall w) (outputOf c))
+FailedGivesBack = Always (λ w c e. e .answer ≡ NotFinite → e ≡ refused NotFinite (givenBack wall (soFar wall w c)) (outputSoFar wall w c))

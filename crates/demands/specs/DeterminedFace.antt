@@ -6,6 +6,8 @@ use Rattle.hall.proofs.hall_reset.Kinds as hall-reset-kinds
 use Rattle.hall.proofs.hall_reset.Reads as hall-reset-reads
 use Rattle.hall.proofs.hall_apply.Kinds as hall-apply-kinds
 use Rattle.hall.proofs.hall_apply.Reads as hall-apply-reads
+use Rattle.hall.proofs.hall_apply_frames.Kinds as hall-apply-frames-kinds
+use Rattle.hall.proofs.hall_apply_frames.Reads as hall-apply-frames-reads
 use Rattle.hall.proofs.hall_tail.Kinds as hall-tail-kinds
 use Rattle.hall.proofs.hall_tail.Reads as hall-tail-reads
 use Rattle.hall.proofs.hall_interleave.Kinds as hall-interleave-kinds
@@ -63,6 +65,7 @@ pub record FaceDetermined : Type 0 where
   pub fresh : DeterminedWith1 1 hall-fresh-kinds.ps hall-fresh-kinds.r hall-fresh-reads.Post (λ κs s. s .1 .1 .0 .now)
   pub reset : DeterminedWith1 1 hall-reset-kinds.ps hall-reset-kinds.r hall-reset-reads.Post (λ κs s. s .1 .0 .now)
   pub apply : DeterminedWith3 5 hall-apply-kinds.ps hall-apply-kinds.r hall-apply-reads.Post (λ κs s. s .1 .1 .1 .1 .1 .1 .0 .now) (λ κs s. s .1 .1 .1 .1 .1 .1 .1 .0 .now) (λ κs s. s .1 .1 .1 .1 .1 .1 .1 .1 .0 .now)
+  pub apply-frames : DeterminedWith3 5 hall-apply-frames-kinds.ps hall-apply-frames-kinds.r hall-apply-frames-reads.Post (λ κs s. s .1 .1 .1 .1 .1 .1 .0 .now) (λ κs s. s .1 .1 .1 .1 .1 .1 .1 .0 .now) (λ κs s. s .1 .1 .1 .1 .1 .1 .1 .1 .0 .now)
   pub tail : DeterminedWith3 3 hall-tail-kinds.ps hall-tail-kinds.r hall-tail-reads.Post (λ κs s. s .1 .0 .now) (λ κs s. s .1 .1 .0 .now) (λ κs s. s .1 .1 .1 .0 .now)
   pub interleave : DeterminedWith1 2 hall-interleave-kinds.ps hall-interleave-kinds.r hall-interleave-reads.Post (λ κs s. s .1 .1 .1 .0 .now)
   pub deinterleave : DeterminedWith1 2 hall-deinterleave-kinds.ps hall-deinterleave-kinds.r hall-deinterleave-reads.Post (λ κs s. s .1 .1 .1 .0 .now)

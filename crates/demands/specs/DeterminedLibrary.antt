@@ -164,6 +164,12 @@ use Rattle.judges.proofs.judge_tail.Kinds as judges-judge-tail-kinds
 use Rattle.judges.proofs.judge_tail.Reads as judges-judge-tail-reads
 use Rattle.judges.proofs.judge_apply.Kinds as judges-judge-apply-kinds
 use Rattle.judges.proofs.judge_apply.Reads as judges-judge-apply-reads
+use Rattle.judges.proofs.judge_frames.Kinds as judges-judge-frames-kinds
+use Rattle.judges.proofs.judge_frames.Reads as judges-judge-frames-reads
+use Rattle.judges.proofs.frame_count.Kinds as judges-frame-count-kinds
+use Rattle.judges.proofs.frame_count.Reads as judges-frame-count-reads
+use Rattle.judges.proofs.judge_input.Kinds as judges-judge-input-kinds
+use Rattle.judges.proofs.judge_input.Reads as judges-judge-input-reads
 use Rattle.judges.proofs.judge_open_apply.Kinds as judges-judge-open-apply-kinds
 use Rattle.judges.proofs.judge_open_apply.Reads as judges-judge-open-apply-reads
 use Rattle.judges.proofs.judge_open_tail.Kinds as judges-judge-open-tail-kinds
@@ -214,6 +220,8 @@ use Rattle.reverb.proofs.reset.Kinds as reverb-reset-kinds
 use Rattle.reverb.proofs.reset.Reads as reverb-reset-reads
 use Rattle.reverb.proofs.apply.Kinds as reverb-apply-kinds
 use Rattle.reverb.proofs.apply.Reads as reverb-apply-reads
+use Rattle.reverb.proofs.apply_frames.Kinds as reverb-apply-frames-kinds
+use Rattle.reverb.proofs.apply_frames.Reads as reverb-apply-frames-reads
 use Rattle.reverb.proofs.tail.Kinds as reverb-tail-kinds
 use Rattle.reverb.proofs.tail.Reads as reverb-tail-reads
 use Rattle.reverb.proofs.filters_of.Kinds as reverb-filters-of-kinds
@@ -347,6 +355,9 @@ pub record JudgesDetermined : Type 0 where
   pub judge-reset : Determined 0 judges-judge-reset-kinds.ps judges-judge-reset-kinds.r judges-judge-reset-reads.Post
   pub judge-tail : Determined 0 judges-judge-tail-kinds.ps judges-judge-tail-kinds.r judges-judge-tail-reads.Post
   pub judge-apply : Determined 2 judges-judge-apply-kinds.ps judges-judge-apply-kinds.r judges-judge-apply-reads.Post
+  pub judge-frames : Determined 1 judges-judge-frames-kinds.ps judges-judge-frames-kinds.r judges-judge-frames-reads.Post
+  pub frame-count : Determined 0 judges-frame-count-kinds.ps judges-frame-count-kinds.r judges-frame-count-reads.Post
+  pub judge-input : Determined 1 judges-judge-input-kinds.ps judges-judge-input-kinds.r judges-judge-input-reads.Post
   pub judge-open-apply : Determined 2 judges-judge-open-apply-kinds.ps judges-judge-open-apply-kinds.r judges-judge-open-apply-reads.Post
   pub judge-open-tail : Determined 0 judges-judge-open-tail-kinds.ps judges-judge-open-tail-kinds.r judges-judge-open-tail-reads.Post
   pub judge-read : Determined 0 judges-judge-read-kinds.ps judges-judge-read-kinds.r judges-judge-read-reads.Post
@@ -382,6 +393,7 @@ pub record ReverbDetermined : Type 0 where
   pub fresh : DeterminedWith1 1 reverb-fresh-kinds.ps reverb-fresh-kinds.r reverb-fresh-reads.Post (λ κs s. s .1 .1 .0 .now)
   pub reset : DeterminedWith1 1 reverb-reset-kinds.ps reverb-reset-kinds.r reverb-reset-reads.Post (λ κs s. s .1 .0 .now)
   pub apply : DeterminedWith3 5 reverb-apply-kinds.ps reverb-apply-kinds.r reverb-apply-reads.Post (λ κs s. s .1 .1 .1 .1 .0 .now) (λ κs s. s .1 .1 .1 .1 .1 .0 .now) (λ κs s. s .1 .1 .1 .1 .1 .1 .0 .now)
+  pub apply-frames : DeterminedWith3 5 reverb-apply-frames-kinds.ps reverb-apply-frames-kinds.r reverb-apply-frames-reads.Post (λ κs s. s .1 .1 .1 .1 .0 .now) (λ κs s. s .1 .1 .1 .1 .1 .0 .now) (λ κs s. s .1 .1 .1 .1 .1 .1 .0 .now)
   pub tail : DeterminedWith3 3 reverb-tail-kinds.ps reverb-tail-kinds.r reverb-tail-reads.Post (λ κs s. s .1 .0 .now) (λ κs s. s .1 .1 .0 .now) (λ κs s. s .1 .1 .1 .0 .now)
   pub filters-of : Determined 1 reverb-filters-of-kinds.ps reverb-filters-of-kinds.r reverb-filters-of-reads.Post
 

@@ -20,7 +20,7 @@ use Rattle.machine.specs.Ending.{Memory}
 use Rattle.machine.specs.Whole.{Play, atOnce}
 use Rattle.machine.specs.Jobs.{Job, closed}
 use Rattle.machine.specs.Calls.{reset, start, job, close, abandon, answer, after}
-use Rattle.machine.specs.Requests.{Slice, Request, ask, seen, answerOf, refusal, request, requests}
+use Rattle.machine.specs.Requests.{Slice, Request, ask, seen, answerOf, request, requests, declined}
 use Rattle.machine.specs.Runs.{Event, afresh, run}
 use Rattle.demands.specs.AnyOrder.{Between, worked, Exactly}
 use Rattle.demands.specs.LineLaw.{account, AllPlay}
@@ -74,7 +74,7 @@ pub data AnyJob : Request → Type 0 where
 
 unfoldable pub Worked : Model → Memory → List Request → Type 0
 Worked m w [] = Unit {0}
-Worked m w (r ∷ rs) = (AnyJob r ⊎ (refusal (answerOf m w r) ≡ true)) × Worked m (request m w r) rs
+Worked m w (r ∷ rs) = (AnyJob r ⊎ (declined m w r ≡ true)) × Worked m (request m w r) rs
 
 -- the unit w, whose lists are as long as a `State`'s, after a frame p is opened on any slices, and then such requests
 abbrev pub afterOpen : Model → Memory → Play → Slice → Slice → Memory

@@ -4,6 +4,7 @@ pub mod DeterminedFace
 pub mod DeterminedProgram
 pub mod RefusedParts
 pub mod Examples
+pub mod Several
 pub mod Refusals
 pub mod AnyOrder
 pub mod Demands

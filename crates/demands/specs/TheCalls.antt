@@ -1,4 +1,4 @@
--- The unit's twelve calls, each by its own contract as the prover knows it.
+-- The unit's thirteen calls, each by its own contract as the prover knows it.
 use mathlib.Core.Path.{_≡_}
 use mathlib.Core.Bool.{true}
 use mathlib.Core.List.{[]}
@@ -11,7 +11,7 @@ use Rattle.unit.specs.Fresh.{leastUnit}
 use Rattle.machine.specs.Ending.{lend, refused}
 use Rattle.machine.specs.Whole.{apply, tail, begun}
 use Rattle.machine.specs.Jobs.{readJob, mixJob, lineJob, outputJob}
-use Rattle.machine.specs.Calls.{reset, whole, start, job, close, abandon}
+use Rattle.machine.specs.Calls.{reset, whole, frames, start, job, close, abandon}
 use Rattle.machine.specs.Requests.{refusal}
 use Rattle.demands.specs.Refusals.{givenBack}
 use Rattle.demands.specs.Contracts.{leaving, Function, Always, EndsAsCall, RefusedLeaves, FailedGivesBack}
@@ -21,6 +21,8 @@ use Rattle.reverb.proofs.reset.Kinds as reset-kinds
 use Rattle.reverb.proofs.reset.Reads as reset-reads
 use Rattle.reverb.proofs.apply.Kinds as apply-kinds
 use Rattle.reverb.proofs.apply.Reads as apply-reads
+use Rattle.reverb.proofs.apply_frames.Kinds as apply-frames-kinds
+use Rattle.reverb.proofs.apply_frames.Reads as apply-frames-reads
 use Rattle.reverb.proofs.tail.Kinds as tail-kinds
 use Rattle.reverb.proofs.tail.Reads as tail-reads
 use Rattle.opening.proofs.open_apply.Kinds as open-apply-kinds
@@ -62,6 +64,18 @@ asApply = record {
   lent = λ κs a rest. lend (a .0) (a .1 .1 .1 .1 .0 .now) (a .1 .1 .1 .1 .1 .0 .now);
   call = λ κs a. whole (apply (a .1 .0) (a .1 .1 .0 .now) (a .1 .1 .1 .0 .now)) (a .1 .1 .1 .1 .1 .1 .0 .now);
   ended = λ κs a x s rest. leaving x (s .1 .1 .1 .1 .0 .now) (s .1 .1 .1 .1 .1 .0 .now) (s .1 .1 .1 .1 .1 .1 .0 .now);
+}
+
+-- beside its ending it says how many frames were done: `reverb::apply_frames`
+abbrev pub asApplyFrames : Function
+asApplyFrames = record {
+  lifetimes = 5;
+  takes = apply-frames-kinds.ps;
+  gives = apply-frames-kinds.r;
+  post = apply-frames-reads.Post;
+  lent = λ κs a rest. lend (a .0) (a .1 .1 .1 .1 .0 .now) (a .1 .1 .1 .1 .1 .0 .now);
+  call = λ κs a. frames (a .1 .0) (a .1 .1 .0 .now) (a .1 .1 .1 .0 .now) (a .1 .1 .1 .1 .1 .1 .0 .now);
+  ended = λ κs a x s rest. leaving (x .outcome) (s .1 .1 .1 .1 .0 .now) (s .1 .1 .1 .1 .1 .0 .now) (s .1 .1 .1 .1 .1 .1 .0 .now);
 }
 
 abbrev pub asTail : Function
@@ -163,11 +177,12 @@ asAbandon = record {
   ended = λ κs a x s rest. leaving x rest (s .1 .0 .now) [];
 }
 
--- ---- the same said of each of the eleven that are given a state
+-- ---- the same said of each of the twelve that are given a state
 
 pub record EachCall (say : Function → Type 0) : Type 0 where
   pub reset : say asReset
   pub apply : say asApply
+  pub applyFrames : say asApplyFrames
   pub tail : say asTail
   pub openApply : say asOpenApply
   pub openTail : say asOpenTail

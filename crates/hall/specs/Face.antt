@@ -10,8 +10,10 @@ use Rattle.delay.specs.declared.FourAnswer.{FourAnswer}
 use Rattle.delay.specs.declared.RingAnswer.{RingAnswer}
 use Rattle.primes.specs.declared.Value.{Value}
 use Rattle.unit.specs.declared.Outcome.{Outcome}
+use Rattle.unit.specs.declared.FramesOutcome.{FramesOutcome}
 use Rattle.hall.specs.declared.HallAnswer.{HallAnswer}
 use Rattle.hall.specs.declared.HallFourAnswer.{HallFourAnswer}
+use Rattle.hall.specs.declared.HallFramesAnswer.{HallFramesAnswer}
 use Rattle.hall.specs.declared.HallRingAnswer.{HallRingAnswer}
 use Rattle.hall.specs.declared.HallValue.{HallValue}
 
@@ -27,6 +29,16 @@ faced o = record {
   index = indexOf (o .answer);
   remaining = remains (o .verdict);
   state = o .state;
+}
+
+-- R10.12: several frames at once, and how many of them were done
+unfoldable pub facedFrames : FramesOutcome → HallFramesAnswer
+facedFrames r = record {
+  number = numberOf (r .outcome .answer);
+  index = indexOf (r .outcome .answer);
+  done = r .done;
+  remaining = remains (r .outcome .verdict);
+  state = r .outcome .state;
 }
 
 -- a call of a ring alone, without and with four samples

@@ -1,6 +1,7 @@
 // How the answer of a call is turned into what C is answered.
 use crate::HallAnswer;
 use crate::HallFourAnswer;
+use crate::HallFramesAnswer;
 use crate::HallRingAnswer;
 use crate::HallValue;
 use audio_buffer::AudioEffectState;
@@ -9,9 +10,10 @@ use delay::RingAnswer;
 use primes::Value;
 use samples::index;
 use samples::number;
+use unit::FramesOutcome;
 use unit::Outcome;
 ghost use mathlib.Core.Path.{_≡_};
-ghost use Rattle.hall.specs.Face.{remains, faced, facedRing, facedFour, facedValue};
+ghost use Rattle.hall.specs.Face.{remains, faced, facedFrames, facedRing, facedFour, facedValue};
 
 // Whether a verdict says that the tail has frames left.
 pub(crate) fn remains(verdict: AudioEffectState) -> bool
@@ -33,6 +35,24 @@ pub(crate) fn faced(o: Outcome) -> HallAnswer
     HallAnswer {
         number: number(answer),
         index: index(answer),
+        remaining: remains(verdict),
+        state,
+    }
+}
+
+// The outcome of several frames, for C.
+pub(crate) fn faced_frames(r: FramesOutcome) -> HallFramesAnswer
+    ensures { λ h. ⌜ h ≡ facedFrames r ⌝ }
+{
+    let o = r.outcome;
+    let answer = o.answer;
+    let verdict = o.verdict;
+    let state = o.state;
+    let done = r.done;
+    HallFramesAnswer {
+        number: number(answer),
+        index: index(answer),
+        done,
         remaining: remains(verdict),
         state,
     }

@@ -35,10 +35,12 @@ pub use rings::hall_ring_get4;
 pub use rings::hall_ring_put;
 pub use rings::hall_ring_put4;
 pub use rings::hall_ring_reset;
+use samples::Frames;
 pub use steps::hall_filter_run;
 pub use steps::hall_mix16;
 use unit::State;
 pub use units::hall_apply;
+pub use units::hall_apply_frames;
 pub use units::hall_fresh;
 pub use units::hall_reset;
 pub use units::hall_tail;
@@ -48,6 +50,16 @@ pub use units::hall_tail;
 pub struct HallAnswer {
     pub number: u32,
     pub index: usize,
+    pub remaining: bool,
+    pub state: State,
+}
+
+// The same of several frames, with how many of them were done.
+#[repr(C)]
+pub struct HallFramesAnswer {
+    pub number: u32,
+    pub index: usize,
+    pub done: Frames,
     pub remaining: bool,
     pub state: State,
 }

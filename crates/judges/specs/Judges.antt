@@ -1,8 +1,8 @@
 -- What is due of a call: the least number that applies (R2.2), lengths by the state's own F (R2.4).
-use Prim.Native.Nat.{ℕ}
+use Prim.Native.Nat.{ℕ, _/_, _%_}
 use mathlib.Core.Bool.{Bool, true, not, _&&_}
-use mathlib.Core.List.{List}
-use lib.Dec.{eqb}
+use mathlib.Core.List.{List, []}
+use lib.Dec.{eqb, leb}
 use lib.Ieee.{Float}
 use lib.ListN.{length}
 use Rattle.samples.specs.declared.Answer.{Answer}
@@ -28,8 +28,8 @@ unfoldable pub judgedFresh : Model → ℕ → ℕ → ℕ → Answer
 judgedFresh m rate frame store =
     need (rateOk rate && frameOk frame) BadSize (need (storeOk m (freshUnit m rate frame) store) BadLength Accepted)
 
--- R2.11, R2.13 to R2.15: any other call of the unit. 1, then 3 unless every lent slice has its length, 4 unless its line is one, and 5 unless
--- it is its turn
+-- R2.11, R2.13 to R2.15: any other call of the unit. 1, then 3 unless every lent slice has its length, 4 unless its line, or how many frames it
+-- is handed, is in range, and 5 unless it is its turn
 unfoldable pub judged : Model → UnitState → Bool → Bool → Bool → Answer
 judged m u lent line turn =
     need (inRange m u) BadState (need lent BadLength (need line BadIndex (need turn OutOfTurn Accepted)))
@@ -66,3 +66,22 @@ judgedApply m u t coefficients input store work output =
     orElse
     (judged m u (givenOk m u (length coefficients) (length input) && lentOk m u store work output) true (not (u .held .busy)))
     (judgedGiven t coefficients input)
+
+-- ---- several frames at once
+
+-- R10.1: the most that one call may be handed
+abbrev pub mostFrames : ℕ
+mostFrames = 1024
+
+-- R10.2: coefficients, an input of whole frames, and an output as long as it
+abbrev pub framesOk : Model → UnitState → ℕ → ℕ → ℕ → Bool
+framesOk m u coefficients input output =
+    eqb coefficients (coefficientsLen m) && (eqb (input % u .settings .frame) 0 && eqb output input)
+
+-- R10.2: 1 3 4 5 6 7, of an input of so many samples. Of 6 to 8 it is what an apply that is given no sample is judged by
+abbrev pub judgedFrames : Model → UnitState → Times → List Float → ℕ → ℕ → ℕ → ℕ → Answer
+judgedFrames m u t coefficients input store work output =
+    orElse
+    (judged m u (framesOk m u (length coefficients) input output && (storeOk m u store && workOk m u work)) (leb (input / u .settings .frame) mostFrames)
+    (not (u .held .busy)))
+    (judgedGiven t coefficients [])

@@ -31,14 +31,18 @@ use unit::fresh_state;
 use unit::in_range;
 use unit::lent_ok;
 use unit::store_ok;
+use unit::work_ok;
 ghost use mathlib.Core.Path.{_≡_};
+ghost use Prim.Native.Nat.{_/_, _%_};
+ghost use lib.Dec.{eqb};
+ghost use Rattle.search.specs.Search.{firstBad};
 ghost use Rattle.samples.specs.Answers.{orElse};
 ghost use Rattle.unit.specs.UnitState.{ofState};
 ghost use Rattle.unit.specs.Layout.{wall};
-ghost use Rattle.judges.specs.Judges.{judged, judgedFresh, judgedReset, judgedTail, judgedApply, judgedGiven, badInput};
+ghost use Rattle.judges.specs.Judges.{judged, judgedFresh, judgedReset, judgedTail, judgedApply, judgedGiven, judgedFrames, badInput};
 
-// A call on a state: `lent` says that every lent slice has its length, `line` that the line is
-// one of the unit's, and `turn` that it is the call's turn.
+// A call on a state: `lent` says that every lent slice has its length, `line` that its line, or how many
+// frames it is handed, is in range, and `turn` that it is the call's turn.
 pub(crate) fn judge(s: State, lent: bool, line: bool, turn: bool) -> Answer
     ensures { λ r. ⌜ r ≡ judged wall (ofState s) lent line turn ⌝ }
 {
@@ -110,6 +114,59 @@ pub fn judge_apply(
     )
 }
 
+// The most frames that one call may be handed (R10.1).
+const MOST_FRAMES: usize = 1024;
+
+// Several frames of input at once, the frames themselves not judged yet (R10.2).
+pub fn judge_frames(
+    s: State,
+    t: Times,
+    coefficients: &[f32],
+    input: usize,
+    store: usize,
+    work: usize,
+    output: usize,
+) -> Answer
+    ensures { λ r. ⌜ r ≡ judgedFrames wall (ofState s) t (now (coefficients .entry)) input store work output ⌝ }
+{
+    let frame = s.frame;
+    let busy = s.busy;
+    let given = and(
+        coefficients.len() == COEFFICIENTS,
+        and(are_whole(frame, input), output == input),
+    );
+    let lent = and(given, and(store_ok(s, store), work_ok(frame, work)));
+    or_else(
+        judge(s, lent, frame_count(frame, input) <= MOST_FRAMES, !busy),
+        judge_given(t, coefficients, &coefficients[0..0]),
+    )
+}
+
+// How many whole frames there are in so many samples. There is none where a frame has no sample.
+pub fn frame_count(frame: usize, samples: usize) -> usize
+    ensures { λ r. ⌜ r ≡ samples / frame ⌝ }
+{
+    if frame == 0 { 0 } else { samples / frame }
+}
+
+// Whether so many samples are whole frames.
+fn are_whole(frame: usize, samples: usize) -> bool
+    ensures { λ r. ⌜ r ≡ eqb (samples % frame) 0 ⌝ }
+{
+    if frame == 0 {
+        samples == 0
+    } else {
+        samples % frame == 0
+    }
+}
+
+// One frame of input, by 8 alone (R2.18).
+pub fn judge_input(input: &[f32]) -> Answer
+    ensures { λ r. ⌜ r ≡ badInput (firstBad (now (input .entry))) ⌝ }
+{
+    bad_input(first_bad(input, 0))
+}
+
 // What an apply is given: its times, its coefficients and its input.
 pub(crate) fn judge_given(t: Times, coefficients: &[f32], input: &[f32]) -> Answer
     ensures { λ r. ⌜ r ≡ judgedGiven t (now (coefficients .entry)) (now (input .entry)) ⌝ }
@@ -120,7 +177,7 @@ pub(crate) fn judge_given(t: Times, coefficients: &[f32], input: &[f32]) -> Answ
         need(
             all_finite(coefficients, PER_FILTER),
             Answer::BadCoefficient,
-            bad_input(first_bad(input, 0)),
+            judge_input(input),
         ),
     )
 }

@@ -1,2 +1,3 @@
 pub mod Ends
 pub mod Cases
+pub mod SeveralCases

@@ -2,14 +2,15 @@
 use Prim.Native.Nat.{ℕ}
 use mathlib.Core.Bool.{Bool, _&&_}
 use mathlib.Core.List.{List, [], _∷_}
-use lib.Dec.{leb}
+use lib.Dec.{leb, eqb}
 use lib.Ieee.{Float}
 use Rattle.samples.specs.declared.Answer.{Answer}
 use Rattle.samples.specs.Answers.{numberOf}
 use Rattle.unit.specs.Layout.{Model}
 use Rattle.machine.specs.Ending.{Memory}
 use Rattle.machine.specs.Whole.{begun}
-use Rattle.machine.specs.Calls.{Call, answer, after}
+use Rattle.machine.specs.Several.{several}
+use Rattle.machine.specs.Calls.{Call, reset, whole, frames, start, job, close, abandon, answer, after}
 
 -- a slice lent as store or as work memory: the unit's own, or any list
 pub data Slice : Type 0 where
@@ -48,6 +49,21 @@ answerOf m w (ask c s k) = answer m (seen w s k) c
 -- R2.32: an answer of 1 to 8
 abbrev pub refusal : Answer → Bool
 refusal a = leb 1 (numberOf a) && leb (numberOf a) 8
+
+-- R10.6: the frames that a call has done when it is refused: none, but for several at once
+abbrev pub doneBefore : Model → Memory → Call → ℕ
+doneBefore m w reset = 0
+doneBefore m w (whole p output) = 0
+doneBefore m w (frames t coefficients input output) = several m w t coefficients input output .done
+doneBefore m w (start p) = 0
+doneBefore m w (job j) = 0
+doneBefore m w (close output) = 0
+doneBefore m w abandon = 0
+
+-- R2.32, R10.11: a refusal that changes nothing, which is one with no frame done
+unfoldable pub declined : Model → Memory → Request → Bool
+declined m w (fresh rate frame s) = refusal (answerOf m w (fresh rate frame s))
+declined m w (ask c s k) = eqb (doneBefore m (seen w s k) c) 0 && refusal (answerOf m w (ask c s k))
 
 -- the unit and its own memory after it
 unfoldable pub request : Model → Memory → Request → Memory

@@ -1,2 +1,4 @@
 pub mod FilterTurns
 pub mod WholeParts
+pub mod SeveralParts
+pub mod SeveralTurns

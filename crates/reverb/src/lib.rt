@@ -1,16 +1,19 @@
-// The unit's calls that aren't jobs: fresh and reset, which leave it silent, and the whole frames, apply
-// and tail. Each takes the state by value and gives it back.
+// The unit's calls that aren't jobs: fresh and reset, which leave it silent, and the whole frames: apply,
+// several applies at once, and tail. Each takes the state by value and gives it back.
 //
 // Their contracts cite the machine: how each call ends.
 mod filters;
+mod several;
 mod units;
 
+use crate::several::play_frames;
 use crate::units::whole_frame;
 use bands::Times;
 use bands::fallen;
 use bands::tail_count;
 pub use filters::filters_of;
 use judges::judge_apply;
+use judges::judge_frames;
 use judges::judge_fresh;
 use judges::judge_reset;
 use judges::judge_tail;
@@ -19,6 +22,7 @@ use samples::LOWEST_RATE;
 use samples::SHORTEST_FRAME;
 use samples::clear;
 use samples::is_accepted;
+use unit::FramesOutcome;
 use unit::Outcome;
 use unit::State;
 use unit::fresh_state;
@@ -29,6 +33,7 @@ ghost use Rattle.unit.specs.Layout.{wall};
 ghost use Rattle.machine.specs.Ending.{lend, outcomeOf};
 ghost use Rattle.machine.specs.Whole as Play;
 ghost use Rattle.machine.specs.Whole.{begun, silenced, atOnce};
+ghost use Rattle.machine.specs.Several.{several, framesOutcomeOf};
 
 // A unit in which nothing has sounded yet, and its store cleared (R2.20, R4.24).
 pub fn fresh(rate: u32, frame: usize, store: &mut [f32]) -> Outcome
@@ -95,6 +100,40 @@ pub fn apply(
     let fs = filters_of(coefficients);
     stages::copy(input, &mut work[0..f]);
     whole_frame(s, false, fs, tail.count, store, work, output)
+}
+
+// Up to 1,024 frames of input, as the same applies made singly, with one set of times and coefficients. It
+// stops at the first frame that is refused, and says how many were done (R10).
+pub fn apply_frames(
+    s: State,
+    t: Times,
+    coefficients: &[f32],
+    input: &[f32],
+    store: &mut [f32],
+    work: &mut [f32],
+    output: &mut [f32],
+) -> FramesOutcome
+    ensures { λ r. ⌜ r ≡ framesOutcomeOf (several wall (lend s (now (store .entry)) (now (work .entry))) t (now (coefficients .entry)) (now (input .entry)) (now (output .entry))) ⌝ }
+    ensures { λ _. ⌜ now (store .exit) ≡ several wall (lend s (now (store .entry)) (now (work .entry))) t (now (coefficients .entry)) (now (input .entry)) (now (output .entry)) .ending .memory .store ⌝ }
+    ensures { λ _. ⌜ now (work .exit) ≡ several wall (lend s (now (store .entry)) (now (work .entry))) t (now (coefficients .entry)) (now (input .entry)) (now (output .entry)) .ending .memory .work ⌝ }
+    ensures { λ _. ⌜ now (output .exit) ≡ several wall (lend s (now (store .entry)) (now (work .entry))) t (now (coefficients .entry)) (now (input .entry)) (now (output .entry)) .ending .output ⌝ }
+{
+    let answer = judge_frames(
+        s,
+        t,
+        coefficients,
+        input.len(),
+        store.len(),
+        work.len(),
+        output.len(),
+    );
+    if !is_accepted(answer) {
+        return FramesOutcome {
+            outcome: quiet(answer, s),
+            done: Frames(0),
+        };
+    }
+    play_frames(s, t, coefficients, input, store, work, output)
 }
 
 // A frame after the input has ended: the lines go on sounding through the filters kept, and one frame

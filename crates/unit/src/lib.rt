@@ -114,6 +114,12 @@ pub struct Outcome {
     pub state: State,
 }
 
+// What several frames at once give back: the outcome of a call, and how many frames were done.
+pub struct FramesOutcome {
+    pub outcome: Outcome,
+    pub done: Frames,
+}
+
 // The outcome of a call that leaves no tail to wait for (R2.35).
 pub fn quiet(answer: Answer, state: State) -> Outcome
     ensures { λ r. ⌜ r ≡ outcome answer (ofState state) TailComplete ⌝ }
