@@ -2,8 +2,8 @@
  *
  * That the two agree on the layout of every struct is checked by calls: each field of a state is given a value on
  * which an answer depends, and each answer is written to a place with a margin behind it. Then frames are played
- * whole and as jobs, every number of the table is met, and after each refusal the bytes of every lent slice are
- * compared, the payloads of NaNs too. */
+ * whole, several at once and as jobs, every number of the table is met, and after each refusal the bytes of every lent
+ * slice are compared, the payloads of NaNs too. */
 
 #include "hall.h"
 
@@ -26,19 +26,21 @@ static void check(bool holds, const char *what, int line) {
 
 /* ---- Memory that is lent: five slices in a row, with margins between them that nobody may write to ---- */
 
-enum { MOST = 1024, MARGIN = 8, SLICES = 5 };
+/* The largest frame, and the largest input: 1,025 frames of 4 samples. */
+enum { MOST = 1024, MOST_INPUT = 1025 * 4, MARGIN = 8, SLICES = 5 };
 enum { COEFFICIENTS, INPUT, STORE, WORK, OUTPUT };
 
 typedef struct {
-    float cells[HALL_COEFFICIENTS + 2 * MOST + HALL_STORE(MOST) + HALL_WORK(MOST) + (SLICES + 1) * MARGIN];
+    float cells[HALL_COEFFICIENTS + 2 * MOST_INPUT + HALL_STORE(MOST) + HALL_WORK(MOST) + (SLICES + 1) * MARGIN];
 } memory;
 
 static memory lent, earlier;
 static size_t start[SLICES], in_use;
 
-/* Where the slices for frames of F samples lie. */
-static void lay_out(size_t frame) {
-    const size_t lengths[SLICES] = {HALL_COEFFICIENTS, frame, HALL_STORE(frame), HALL_WORK(frame), frame};
+/* Where the slices for so many frames of F samples lie. */
+static void lay_out(size_t frame, size_t frames) {
+    size_t given = frames * frame;
+    const size_t lengths[SLICES] = {HALL_COEFFICIENTS, given, HALL_STORE(frame), HALL_WORK(frame), given};
     in_use = MARGIN;
     for (size_t which = 0; which < SLICES; which++) {
         start[which] = in_use;
@@ -74,11 +76,16 @@ static bool all_plus_zero(const float *xs, size_t count) {
     return true;
 }
 
-/* Lays out memory for frames of F samples and fills all of it, margins too, with NaNs of many payloads. */
-static void fill_with_nans(size_t frame) {
-    lay_out(frame);
+/* Lays out memory for so many frames of F samples and fills all of it, margins too, with NaNs of many payloads. */
+static void fill_all_with_nans(size_t frame, size_t frames) {
+    lay_out(frame, frames);
     for (size_t k = 0; k < in_use; k++)
         lent.cells[k] = float_of((k % 2 ? 0x7f800001u : 0xffc00000u) + (uint32_t)k);
+}
+
+/* The same for one frame at a time. */
+static void fill_with_nans(size_t frame) {
+    fill_all_with_nans(frame, 1);
 }
 
 static void fill(size_t which, size_t count, float x) {
@@ -126,7 +133,7 @@ static bool same_state(const hall_state *a, const hall_state *b) {
            memcmp(a->before, b->before, sizeof a->before) == 0;
 }
 
-typedef enum { RESET, APPLY, TAIL, OPEN_APPLY, OPEN_TAIL, READ, MIX, LINE, OUT, CLOSE, ABANDON, CALLS } call;
+typedef enum { RESET, APPLY, FRAMES, TAIL, OPEN_APPLY, OPEN_TAIL, READ, MIX, LINE, OUT, CLOSE, ABANDON, CALLS } call;
 
 /* A call of the unit: its own arguments, and how much of each slice it is lent. */
 typedef struct {
@@ -147,15 +154,32 @@ static request request_of(call call, hall_state state) {
 /* How each call is lent each slice: 0 not at all, 1 to be read, 2 to be written. */
 static int lending(call call, size_t which) {
     static const int table[CALLS][SLICES] = {
-        [RESET] = {0, 0, 2, 0, 0}, [APPLY] = {1, 1, 2, 2, 2}, [TAIL] = {0, 0, 2, 2, 2}, [OPEN_APPLY] = {1, 1, 1, 2, 0},
-        [OPEN_TAIL] = {0, 0, 1, 2, 0}, [READ] = {0, 0, 1, 2, 0}, [MIX] = {0, 0, 0, 2, 0}, [LINE] = {0, 0, 0, 2, 0},
-        [OUT] = {0, 0, 0, 2, 0}, [CLOSE] = {0, 0, 2, 2, 2}, [ABANDON] = {0, 0, 0, 2, 0},
+        [RESET] = {0, 0, 2, 0, 0}, [APPLY] = {1, 1, 2, 2, 2}, [FRAMES] = {1, 1, 2, 2, 2}, [TAIL] = {0, 0, 2, 2, 2},
+        [OPEN_APPLY] = {1, 1, 1, 2, 0}, [OPEN_TAIL] = {0, 0, 1, 2, 0}, [READ] = {0, 0, 1, 2, 0},
+        [MIX] = {0, 0, 0, 2, 0}, [LINE] = {0, 0, 0, 2, 0}, [OUT] = {0, 0, 0, 2, 0}, [CLOSE] = {0, 0, 2, 2, 2},
+        [ABANDON] = {0, 0, 0, 2, 0},
     };
     return table[call][which];
 }
 
 static float *lent_slice(const request *r, size_t which) {
     return r->length[which] ? slice(which) : NULL; /* an empty slice may be NULL */
+}
+
+static hall_frames_answer frames_made(const request *r) {
+    const float *t = r->times;
+    return hall_apply_frames(r->state, t[0], t[1], t[2], lent_slice(r, COEFFICIENTS), r->length[COEFFICIENTS],
+                             lent_slice(r, INPUT), r->length[INPUT], lent_slice(r, STORE), r->length[STORE],
+                             lent_slice(r, WORK), r->length[WORK], lent_slice(r, OUTPUT), r->length[OUTPUT]);
+}
+
+/* How many frames the last call of several did. */
+static int32_t frames_done;
+
+/* Their answer but for that number. */
+static hall_answer counted(hall_frames_answer a) {
+    frames_done = a.done;
+    return (hall_answer){a.number, a.index, a.remaining, a.state};
 }
 
 static hall_answer made(const request *r) {
@@ -168,6 +192,7 @@ static hall_answer made(const request *r) {
     case RESET: return hall_reset(r->state, store, ns);
     case APPLY:
         return hall_apply(r->state, t[0], t[1], t[2], coefficients, nc, input, ni, store, ns, work, nw, output, no);
+    case FRAMES: return counted(frames_made(r));
     case TAIL: return hall_tail(r->state, store, ns, work, nw, output, no);
     case OPEN_APPLY:
         return hall_open_apply(r->state, t[0], t[1], t[2], coefficients, nc, input, ni, store, ns, work, nw);
@@ -201,6 +226,7 @@ static void refused(const request *r, uint32_t number, size_t index) {
     CHECK(a.number == number);
     CHECK(a.index == index);
     CHECK(!a.remaining);
+    CHECK(r->call != FRAMES || frames_done == 0);
     CHECK(same_state(&a.state, &r->state));
     CHECK(same_bytes(&lent, &earlier));
 }
@@ -226,14 +252,19 @@ static hall_state in_turn(call call, size_t frame) {
     return s;
 }
 
-/* Finite memory for frames of F samples, with gentle filters. */
-static void fill_finite(size_t frame) {
-    fill_with_nans(frame);
+/* Finite memory for so many frames of F samples, with gentle filters. */
+static void fill_all_finite(size_t frame, size_t frames) {
+    fill_all_with_nans(frame, frames);
     fill(COEFFICIENTS, HALL_COEFFICIENTS, 0.0f);
     for (size_t k = 0; k < 51; k++) slice(COEFFICIENTS)[5 * k + 2] = 0.9f;
-    for (size_t k = 0; k < frame; k++) slice(INPUT)[k] = noise();
+    for (size_t k = 0; k < frames * frame; k++) slice(INPUT)[k] = noise();
     for (size_t k = 0; k < HALL_STORE(frame); k++) slice(STORE)[k] = noise();
     fill(WORK, HALL_WORK(frame), 0.5f);
+}
+
+/* The same for one frame at a time. */
+static void fill_finite(size_t frame) {
+    fill_all_finite(frame, 1);
 }
 
 /* ---- The layout of the structs ---- */
@@ -248,6 +279,14 @@ static hall_state numbered(size_t frame) {
     float *numbers = &s.filters[0].a1;
     for (size_t k = 0; k < 51 * 9; k++) numbers[k] = 1000.0f + (float)k;
     return s;
+}
+
+/* So many frames at once, of a unit that has lived, and finite memory for them. */
+static request frames_of_noise(size_t frame, size_t frames) {
+    fill_all_finite(frame, frames);
+    request r = request_of(FRAMES, numbered(frame));
+    r.length[INPUT] = r.length[OUTPUT] = frames * frame;
+    return r;
 }
 
 /* A whole call that needs no float: all fields go in and come out. */
@@ -486,13 +525,34 @@ __asm__(".text\n"
 #define OPENLY(name, types, ...) (((void *(*)AFTER_PLACE types)unknown((function *)(name)))(room(), __VA_ARGS__))
 #endif
 
+/* Number, index, done and verdict of several frames, each in its own place; all fields of the state go round. */
+static void layout_of_a_frames_answer(void) {
+    request r = frames_of_noise(8, 3);
+    hall_frames_answer a = frames_made(&r);
+    CHECK(a.number == 0 && a.index == 0 && a.done == 3 && a.remaining && a.state.rate == 8123 && a.state.frame == 8);
+    r = frames_of_noise(8, 3);
+    slice(INPUT)[2 * 8 + 5] = float_of(0x7f800000u);
+    a = frames_made(&r);
+    CHECK(a.number == 8 && a.index == 5 && a.done == 2 && !a.remaining && a.state.count > 0);
+    r = frames_of_noise(8, 0);
+    a = frames_made(&r);
+    CHECK(a.number == 0 && a.index == 0 && a.done == 0 && a.remaining && same_state(&a.state, &r.state));
+    CHECK(offsetof(hall_frames_answer, index) == 8 && offsetof(hall_frames_answer, done) == 16);
+    CHECK(offsetof(hall_frames_answer, remaining) == 20 && offsetof(hall_frames_answer, state) == 24);
+}
+
 static void layout_of_the_sizes(void) {
-    CHECK(sizeof(hall_state) == 4056 && sizeof(hall_answer) == 4080);
+    CHECK(sizeof(hall_state) == 4056 && sizeof(hall_answer) == 4080 && sizeof(hall_frames_answer) == 4080);
     float ring[5] = {0};
     const hall_cursors c = {1, 2};
     const hall_filter f = {0};
     void *given = OPENLY(hall_reset, (hall_state, float *, size_t), numbered(8), ring, 5);
     CHECK(ends_at(given, sizeof(hall_answer), 4) && answered.whole.number == 3);
+    given = OPENLY(hall_apply_frames,
+                   (hall_state, float, float, float, const float *, size_t, const float *, size_t, float *, size_t,
+                    float *, size_t, float *, size_t),
+                   numbered(8), 0.1f, 0.1f, 0.1f, NULL, 0, NULL, 0, ring, 5, NULL, 0, NULL, 0);
+    CHECK(ends_at(given, sizeof(hall_frames_answer), 4) && answered.whole.number == 3);
     given = OPENLY(hall_ring_reset, (float *, size_t, hall_cursors), ring, 5, c);
     CHECK(ends_at(given, sizeof(hall_ring_answer), 0) && answered.whole.number == 0);
     given = OPENLY(hall_ring_get4, (const float *, size_t, hall_cursors), ring, 5, c);
@@ -512,6 +572,7 @@ static void layout(void) {
     layout_of_a_filter();
     layout_of_an_open_frame();
     layout_of_the_cursors();
+    layout_of_a_frames_answer();
     layout_of_the_sizes();
 }
 
@@ -526,6 +587,8 @@ static void refused_states(void) {
         refused(&r, 1, 0);
         r = request_of(c, in_turn(c, 8));
         r.state.frame = SIZE_MAX - 3;
+        refused(&r, 1, 0);
+        r.state.frame = 0;
         refused(&r, 1, 0);
         r = request_of(c, in_turn(c, 8));
         r.state.lines[15].write = SIZE_MAX;
@@ -645,7 +708,7 @@ static void lowest_number_first(void) {
 static void refused_frames(call c) {
     fill_finite(8);
     hall_state s = numbered(8);
-    if (c == APPLY) fill(COEFFICIENTS, HALL_COEFFICIENTS, 3.0e38f);
+    if (c == APPLY || c == FRAMES) fill(COEFFICIENTS, HALL_COEFFICIENTS, 3.0e38f);
     if (c == TAIL) s.filters[50].y2 = float_of(0x7f800000u);
     if (c == CLOSE) {
         s.busy = true;
@@ -706,9 +769,11 @@ static void refusals(void) {
     refused_lines();
     refused_turns();
     refused_floats(APPLY);
+    refused_floats(FRAMES);
     refused_floats(OPEN_APPLY);
     lowest_number_first();
     refused_frames(APPLY);
+    refused_frames(FRAMES);
     refused_frames(TAIL);
     refused_frames(CLOSE);
     what_nine_judges();
@@ -852,6 +917,246 @@ static void frames(void) {
     least_counts();
 }
 
+/* ---- Several frames at once (R10) ---- */
+
+/* The same frames by an apply each, up to the first that is refused. */
+static hall_answer singly(const request *r) {
+    size_t frame = r->state.frame;
+    const float *t = r->times;
+    hall_answer a = {0, 0, r->state.count > 0, r->state};
+    frames_done = 0;
+    for (size_t at = 0; at < r->length[INPUT] && a.number == 0; at += frame) {
+        a = hall_apply(a.state, t[0], t[1], t[2], slice(COEFFICIENTS), HALL_COEFFICIENTS, slice(INPUT) + at, frame,
+                       slice(STORE), HALL_STORE(frame), slice(WORK), HALL_WORK(frame), slice(OUTPUT) + at, frame);
+        frames_done += a.number == 0;
+    }
+    return a;
+}
+
+/* A slice is what it was from a float on. */
+static bool kept_from(const memory *before, size_t which, size_t from, size_t length) {
+    return memcmp(slice(which) + from, before->cells + start[which] + from, (length - from) * sizeof(float)) == 0;
+}
+
+/* Frames at once that end with this number, and the same singly from the same state and memory: the same answer, state
+ * and bytes. From the frame that was refused on no output is touched, and the verdict is false. Work is +0, or as it
+ * was where no frame was done nor came to a 9. */
+static hall_answer at_once(const request *r, uint32_t number, size_t index, size_t done) {
+    static memory opening, result;
+    copy(&opening, &lent);
+    hall_answer a = ask(r);
+    CHECK(a.number == number && a.index == index && frames_done == (int32_t)done);
+    CHECK(a.remaining == (number == 0 && a.state.count > 0));
+    CHECK(kept_from(&opening, OUTPUT, done * r->state.frame, r->length[OUTPUT]));
+    if (done > 0 || number == 9) CHECK(all_plus_zero(slice(WORK), r->length[WORK]));
+    else CHECK(kept_from(&opening, WORK, 0, r->length[WORK]));
+    copy(&result, &lent);
+    copy(&lent, &opening);
+    hall_answer b = singly(r);
+    CHECK(b.number == number && b.index == index && frames_done == (int32_t)done && b.remaining == a.remaining);
+    CHECK(same_state(&a.state, &b.state));
+    CHECK(same_bytes(&lent, &result));
+    return a;
+}
+
+/* The tail that follows; a 9 repeats. */
+static void then_tail(hall_answer a) {
+    request r = request_of(TAIL, a.state);
+    hall_answer tail = ask(&r);
+    CHECK(tail.number == (a.number == 9 ? 9 : 0));
+    CHECK(tail.state.count == a.state.count - (tail.number == 0 && a.state.count > INT32_MIN));
+}
+
+/* All frames are done: with a tail left, and with none. */
+static void all_done(size_t frame, size_t frames) {
+    request r = frames_of_noise(frame, frames);
+    hall_answer a = at_once(&r, 0, 0, frames);
+    CHECK(a.remaining);
+    then_tail(a);
+    r = frames_of_noise(frame, frames);
+    r.times[0] = r.times[1] = r.times[2] = -0.0f;
+    a = at_once(&r, 0, 0, frames);
+    CHECK(!a.remaining && a.state.count == 0);
+    then_tail(a);
+}
+
+/* No frames: nothing changes, and the verdict is that of the count kept. 1, 3, 5, 6 and 7 are judged all the same. */
+static void no_frames(int32_t count) {
+    request r = frames_of_noise(8, 0);
+    r.state.count = count;
+    copy(&earlier, &lent);
+    hall_answer a = at_once(&r, 0, 0, 0);
+    CHECK(a.remaining == (count > 0) && same_state(&a.state, &r.state) && same_bytes(&lent, &earlier));
+    then_tail(a);
+    request wrong = r;
+    wrong.state.rate = 7999;
+    refused(&wrong, 1, 0);
+    for (size_t which = 0; which < SLICES; which++) {
+        wrong = r;
+        wrong.length[which]++;
+        refused(&wrong, 3, 0);
+    }
+    wrong = r;
+    wrong.state.busy = true;
+    refused(&wrong, 5, 0);
+    wrong = r;
+    wrong.times[2] = 100.00001f;
+    refused(&wrong, 6, 0);
+    slice(COEFFICIENTS)[254] = float_of(0xff800000u);
+    refused(&r, 7, 0);
+}
+
+/* 3: an input of no whole number of frames, though the output is as long; an output of another length, by whole frames
+ * too; any other slice. It comes before 4 and 5. */
+static void wrong_lengths(size_t frame, size_t frames) {
+    request right = frames_of_noise(frame, frames);
+    right.state.busy = true;
+    for (size_t by = 1; by < frame; by++) {
+        request r = right;
+        r.length[INPUT] -= by;
+        refused(&r, 3, 0);
+        r.length[OUTPUT] -= by;
+        refused(&r, 3, 0);
+    }
+    for (size_t which = 0; which < SLICES; which++) {
+        const size_t lengths[] = {right.length[which] - 1, right.length[which] + 1, right.length[which] - frame,
+                                  right.length[which] + frame, 0};
+        for (size_t k = 0; k < sizeof lengths / sizeof *lengths; k++) {
+            request r = right;
+            r.length[which] = lengths[k];
+            refused(&r, 3, 0);
+        }
+    }
+}
+
+/* Makes a sample of a frame bad. */
+static void make_bad(size_t frame, size_t at, size_t sample) {
+    slice(INPUT)[at * frame + sample] = float_of(sample % 2 ? 0x7f800000u : 0xffc54321u);
+}
+
+/* Puts a sample into every line that is so loud that the frame which reads it comes to a 9. */
+static void make_loud(const hall_state *s, size_t at) {
+    size_t ring = start[STORE];
+    for (size_t line = 0; line < 16; line++) {
+        lent.cells[ring + s->lines[line].read + at * s->frame + 1] = 3.0e38f;
+        ring += line_length(line, s->frame);
+    }
+}
+
+/* An 8 in a frame: alone, with an 8 and a 9 in each frame behind it, and with a 9 in the same frame. */
+static void stopped_by_input(size_t frame, size_t frames, size_t at) {
+    for (size_t sample = 0; sample < frame; sample++) {
+        for (size_t worse = 0; worse < 3; worse++) {
+            request r = frames_of_noise(frame, frames);
+            make_bad(frame, at, sample);
+            make_bad(frame, at, frame - 1);
+            for (size_t later = at + 1; later < frames && worse == 1; later++) {
+                make_bad(frame, later, 0);
+                make_loud(&r.state, later);
+            }
+            if (worse == 2) make_loud(&r.state, at);
+            hall_answer a = at_once(&r, 8, sample, at);
+            CHECK(a.state.count > 0);
+            if (worse == 0) then_tail(a);
+        }
+    }
+}
+
+/* A 9 in a frame: alone, and with an 8 in each frame behind it. */
+static void stopped_by_sound(size_t frame, size_t frames, size_t at) {
+    for (size_t worse = 0; worse < 2; worse++) {
+        request r = frames_of_noise(frame, frames);
+        make_loud(&r.state, at);
+        for (size_t later = at + 1; later < frames && worse == 1; later++) make_bad(frame, later, 2);
+        hall_answer a = at_once(&r, 9, 0, at);
+        CHECK(a.state.count > 0);
+        then_tail(a);
+    }
+}
+
+/* A click so loud, or so loudly filtered, that the frame in which it is first heard comes to a 9: sample 353. */
+static void stopped_by_click(bool filters) {
+    request r = frames_of_noise(128, 5);
+    r.state = blank(128);
+    fill(STORE, HALL_STORE(128), 0.0f);
+    fill(INPUT, 5 * 128, 0.0f);
+    if (filters) fill(COEFFICIENTS, HALL_COEFFICIENTS, 3.0e38f);
+    slice(INPUT)[0] = filters ? 1.0f : 3.0e38f;
+    CHECK(at_once(&r, 9, 0, 2).state.count > 0);
+}
+
+/* 4: one frame too many, before 5 to 8. 1,024 are done, or all but the last where that has a bad sample. */
+static void most_frames(void) {
+    request r = frames_of_noise(4, 1024);
+    then_tail(at_once(&r, 0, 0, 1024));
+    r = frames_of_noise(4, 1024);
+    make_bad(4, 1023, 3);
+    then_tail(at_once(&r, 8, 3, 1023));
+    r = frames_of_noise(4, 1025);
+    refused(&r, 4, 0);
+    r.state.busy = true;
+    refused(&r, 4, 0);
+    r.state.busy = false;
+    r.times[0] = -1.0f;
+    make_bad(4, 0, 0);
+    fill(COEFFICIENTS, 1, float_of(0x7fc00000u));
+    refused(&r, 4, 0);
+    wrong_lengths(4, 1025);
+}
+
+/* Everything wrong at once: the lowest number is given, then the next as each is mended. */
+static void lowest_number_of_frames(void) {
+    request r = frames_of_noise(4, 1025);
+    make_bad(4, 0, 2);
+    make_loud(&r.state, 0);
+    slice(COEFFICIENTS)[7] = float_of(0x7f800000u);
+    r.times[1] = float_of(0x7fc00000u);
+    r.state.busy = true;
+    r.state.rate = 0;
+    r.length[OUTPUT]--;
+    refused(&r, 1, 0);
+    r.state.rate = 8123;
+    refused(&r, 3, 0);
+    r.length[OUTPUT]++;
+    refused(&r, 4, 0);
+    r.length[INPUT] = r.length[OUTPUT] = 8;
+    refused(&r, 5, 0);
+    r.state.busy = false;
+    refused(&r, 6, 0);
+    r.times[1] = 0.1f;
+    refused(&r, 7, 0);
+    fill(COEFFICIENTS, HALL_COEFFICIENTS, 0.5f);
+    refused(&r, 8, 2);
+    slice(INPUT)[2] = slice(INPUT)[3] = 0.0f;
+    at_once(&r, 9, 0, 0);
+}
+
+static void several_frames(void) {
+    for (size_t frames = 1; frames <= 4; frames++) {
+        all_done(4, frames);
+        all_done(100, frames);
+        all_done(1024, frames);
+    }
+    no_frames(9);
+    no_frames(1);
+    no_frames(0);
+    no_frames(-1);
+    no_frames(INT32_MIN);
+    wrong_lengths(4, 3);
+    wrong_lengths(8, 2);
+    for (size_t frames = 1; frames <= 3; frames++)
+        for (size_t at = 0; at < frames; at++) {
+            stopped_by_input(4, frames, at);
+            stopped_by_input(8, frames, at);
+            stopped_by_sound(4, frames, at);
+            stopped_by_sound(100, frames, at);
+        }
+    stopped_by_click(false);
+    stopped_by_click(true);
+    most_frames();
+    lowest_number_of_frames();
+}
+
 /* ---- Rings, mix, values and buffers ---- */
 
 static void ring_alone(void) {
@@ -933,6 +1238,7 @@ int main(void) {
     layout();
     refusals();
     frames();
+    several_frames();
     ring_alone();
     mix_alone();
     values();
