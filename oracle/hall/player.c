@@ -43,24 +43,30 @@ static bool is(const char *name) {
 
 #define GIVE(type, value) (*(type *)(shared + ANSWER) = (value), true)
 
-/* The calls that make or change a whole unit. */
+/* The calls that are given times, coefficients and input. */
+static bool apply_call(void) {
+    if (!is("hall_apply") && !is("hall_apply_frames") && !is("hall_open_apply")) return false;
+    hall_state s = TAKE(hall_state);
+    float t0 = TAKE(float), t1 = TAKE(float), t2 = TAKE(float);
+    slice c = take_slice(), in = take_slice(), store = take_slice(), work = take_slice();
+    if (is("hall_open_apply"))
+        return GIVE(hall_answer, hall_open_apply(s, t0, t1, t2, c.p, c.n, in.p, in.n, store.p, store.n, work.p,
+                                                 work.n));
+    slice out = take_slice();
+    if (is("hall_apply_frames"))
+        return GIVE(hall_frames_answer, hall_apply_frames(s, t0, t1, t2, c.p, c.n, in.p, in.n, store.p, store.n,
+                                                          work.p, work.n, out.p, out.n));
+    return GIVE(hall_answer, hall_apply(s, t0, t1, t2, c.p, c.n, in.p, in.n, store.p, store.n, work.p, work.n,
+                                        out.p, out.n));
+}
+
+/* The other calls that make or change a whole unit. */
 static bool whole_call(void) {
     if (is("hall_fresh")) {
         uint32_t rate = TAKE(uint32_t);
         size_t frame = TAKE(size_t);
         slice store = take_slice();
         return GIVE(hall_answer, hall_fresh(rate, frame, store.p, store.n));
-    }
-    if (is("hall_apply") || is("hall_open_apply")) {
-        hall_state s = TAKE(hall_state);
-        float t0 = TAKE(float), t1 = TAKE(float), t2 = TAKE(float);
-        slice c = take_slice(), in = take_slice(), store = take_slice(), work = take_slice();
-        if (is("hall_open_apply"))
-            return GIVE(hall_answer, hall_open_apply(s, t0, t1, t2, c.p, c.n, in.p, in.n, store.p, store.n, work.p,
-                                                     work.n));
-        slice out = take_slice();
-        return GIVE(hall_answer, hall_apply(s, t0, t1, t2, c.p, c.n, in.p, in.n, store.p, store.n, work.p, work.n,
-                                            out.p, out.n));
     }
     if (is("hall_tail") || is("hall_close")) {
         hall_state s = TAKE(hall_state);
@@ -178,7 +184,7 @@ static bool all_powers(void) {
 
 static bool play(void) {
     next = shared + ARGUMENTS;
-    return whole_call() || job() || ring_call() || part() || all_powers() || buffer_call();
+    return apply_call() || whole_call() || job() || ring_call() || part() || all_powers() || buffer_call();
 }
 
 int main(int count, char **words) {

@@ -3,7 +3,7 @@
 
 use crate::law;
 use crate::rust_unit;
-use crate::world::{Reply, Request, World};
+use crate::world::{Lent, Reply, Request, World};
 use hall::{Cursors, State};
 use phonon::dsp::delay::Delay;
 use phonon::dsp::iir::{IIR, IIRFilterer};
@@ -21,6 +21,7 @@ pub fn expected(world: &World, request: Request, effect: &mut ReverbEffect) -> (
     match request {
         Request::Reset => reset(world, effect),
         Request::Apply(times) => whole(world, effect, |effect| rust_unit::apply(effect, world, times)),
+        Request::Frames(times) => singly(world, effect, times),
         Request::Tail => whole(world, effect, rust_unit::tail),
         Request::OpenApply(times) => (Reply::plain(0), opened_apply(world, times)),
         Request::OpenTail => (Reply::plain(0), opened_tail(world)),
@@ -54,6 +55,45 @@ fn whole(
     next.output.copy_from_slice(&output);
     *effect = played;
     (reply, next)
+}
+
+/// R10: several frames are the applies made singly, up to the first that is refused. With no frames nothing is done,
+/// and the verdict is that of the count kept.
+fn singly(world: &World, effect: &mut ReverbEffect, times: [f32; 3]) -> (Reply, World) {
+    let mut next = world.clone();
+    let mut last = Reply {
+        remaining: world.state.count > 0,
+        ..Reply::plain(0)
+    };
+    for (done, range) in (0..).zip(frame_ranges(world)) {
+        let (reply, after) = expected(&of_one_frame(&next, &range), Request::Apply(times), effect);
+        (next.state, next.store, next.work) = (after.state, after.store, after.work);
+        next.output[range].copy_from_slice(&after.output);
+        last = Reply { done, ..reply };
+        if reply.number != 0 {
+            return (last, next);
+        }
+    }
+    last.done = law::frames(world) as i32;
+    (last, next)
+}
+
+/// Where each frame of several lies, in the input and in the output.
+fn frame_ranges(world: &World) -> impl Iterator<Item = Range<usize>> + use<> {
+    let frame = world.state.frame;
+    (0..law::frames(world)).map(move |k| k * frame..(k + 1) * frame)
+}
+
+/// The world with one frame of its input and output.
+fn of_one_frame(world: &World, range: &Range<usize>) -> World {
+    World {
+        state: world.state,
+        coefficients: world.coefficients.clone(),
+        input: Lent::from(&world.input[range.clone()]),
+        store: world.store.clone(),
+        work: world.work.clone(),
+        output: Lent::from(&world.output[range.clone()]),
+    }
 }
 
 /// R5.6, R5.8: an open. All of the work memory is set.

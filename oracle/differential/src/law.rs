@@ -61,14 +61,23 @@ fn blank(s: &State) -> bool {
     !s.tail && s.next == 0 && !s.marks.contains(&true) && s.before.iter().all(zero)
 }
 
-/// The reply that is due before any work is done; number 0 if none of 1 to 8 is.
+/// R10: the most frames at once.
+pub const MOST_FRAMES: usize = 1_024;
+
+/// How many whole frames the input holds.
+pub fn frames(world: &World) -> usize {
+    world.input.len() / world.state.frame
+}
+
+/// The reply that is due before any work is done; number 0 if none of 1 to 8 is. Of several frames 8 isn't judged here,
+/// but at each frame.
 pub fn judged(world: &World, request: Request) -> Reply {
     let s = &world.state;
     let number = if !in_range(s) {
         1
     } else if !lengths_ok(world, request) {
         3
-    } else if matches!(request, Request::Read(16..) | Request::Line(16..)) {
+    } else if !numbers_ok(world, request) {
         4
     } else if !in_turn(s, request) {
         5
@@ -78,18 +87,32 @@ pub fn judged(world: &World, request: Request) -> Reply {
     Reply::plain(number)
 }
 
-/// Each slice that the call is lent has its exact length, by the state's F.
+/// Each slice that the call is lent has its exact length, by the state's F. Several frames are lent whole frames of
+/// input, and as much output (R10).
 fn lengths_ok(world: &World, request: Request) -> bool {
     let frame = world.state.frame;
-    let exact = [255, frame, store_length(frame), work_length(frame), frame];
+    let (input, output) = match request {
+        Request::Frames(_) => (frames(world) * frame, world.input.len()),
+        _ => (frame, frame),
+    };
+    let exact = [255, input, store_length(frame), work_length(frame), output];
     let lent = lent(request);
     (0..5).all(|k| !lent[k] || world.slices()[k].len() == exact[k])
+}
+
+/// The line of a job is there, and the frames at once aren't too many.
+fn numbers_ok(world: &World, request: Request) -> bool {
+    match request {
+        Request::Read(line) | Request::Line(line) => line < 16,
+        Request::Frames(_) => frames(world) <= MOST_FRAMES,
+        _ => true,
+    }
 }
 
 /// Which of coefficients, input, store, work and output a call is lent.
 pub fn lent(request: Request) -> [bool; 5] {
     match request {
-        Request::Apply(_) => [true; 5],
+        Request::Apply(_) | Request::Frames(_) => [true; 5],
         Request::OpenApply(_) => [true, true, true, true, false],
         Request::Tail | Request::Close => [false, false, true, true, true],
         Request::OpenTail | Request::Read(_) => [false, false, true, true, false],
@@ -108,13 +131,14 @@ fn in_turn(s: &State, request: Request) -> bool {
         Request::Output => s.busy && !s.marks[33] && done(0..16),
         Request::Close => s.busy && done(0..34),
         Request::Abandon => s.busy,
-        Request::Reset | Request::Apply(_) | Request::Tail | Request::OpenApply(_) | Request::OpenTail => !s.busy,
+        Request::Reset | Request::OpenApply(_) | Request::OpenTail => !s.busy,
+        Request::Apply(_) | Request::Frames(_) | Request::Tail => !s.busy,
     }
 }
 
 /// R2.16 to R2.18: 6, 7 and 8 for the times, coefficients and input of an apply.
 fn judged_given(world: &World, request: Request) -> Reply {
-    let (Request::Apply(times) | Request::OpenApply(times)) = request else {
+    let (Request::Apply(times) | Request::Frames(times) | Request::OpenApply(times)) = request else {
         return Reply::plain(0);
     };
     if !times.iter().all(|time| time_ok(*time)) {
@@ -123,12 +147,12 @@ fn judged_given(world: &World, request: Request) -> Reply {
     if !world.coefficients.iter().all(|x| x.is_finite()) {
         return Reply::plain(7);
     }
-    match world.input.iter().position(|x| !x.is_finite()) {
-        None => Reply::plain(0),
-        Some(index) => Reply {
-            number: 8,
+    let first_bad = world.input.iter().position(|x| !x.is_finite());
+    match (request, first_bad) {
+        (Request::Frames(_), _) | (_, None) => Reply::plain(0),
+        (_, Some(index)) => Reply {
             index,
-            remaining: false,
+            ..Reply::plain(8)
         },
     }
 }

@@ -2,6 +2,7 @@
 
 mod dice;
 mod expected;
+mod frames;
 mod law;
 mod report;
 mod rust_unit;
@@ -79,6 +80,9 @@ fn play(plan: &Plan, journal: &mut Journal) -> Result<u64, Difference> {
         None => 0..plan.trials,
     };
     guarded("all powers of primes", journal, trials::all_powers)?;
+    let mut dice = Dice::new(plan.seed, u64::MAX - 1);
+    let place = format!("several frames, seed {}", plan.seed);
+    guarded(&place, journal, |journal| trials::several_frames(&mut dice, journal))?;
     for trial in trials.clone() {
         let mut dice = Dice::new(plan.seed, trial);
         let place = format!("trial {trial}, seed {}", plan.seed);

@@ -23,10 +23,12 @@ pub struct Journal {
     pub applies: u64,
     pub tails: u64,
     pub job_frames: u64,
+    pub at_once: u64,
     pub jobs: u64,
     pub abandoned: u64,
     pub parts: u64,
     pub answers: [u64; 10],
+    pub at_once_answers: [u64; 10],
     calls: u64,
     call: String,
 }
@@ -80,22 +82,29 @@ impl Journal {
         }
     }
 
-    /// All that was compared, in two lines.
+    /// All that was compared, in three lines.
     pub fn summary(&self) -> String {
-        let frames = self.applies + self.tails + self.job_frames;
-        let answers: Vec<String> = (0..10).map(|k| format!("{k}: {}", self.answers[k])).collect();
+        let frames = self.applies + self.tails + self.job_frames + self.at_once;
         format!(
-            "frames accepted: {frames} ({} applies, {} tails, {} as jobs), {} frames abandoned, {} jobs, \
-             {} calls of parts\nanswers by number: {}",
+            "frames accepted: {frames} ({} applies, {} tails, {} as jobs, {} at once), {} frames abandoned, {} jobs, \
+             {} calls of parts\nanswers by number: {}\nthose of several frames at once: {}",
             self.applies,
             self.tails,
             self.job_frames,
+            self.at_once,
             self.abandoned,
             self.jobs,
             self.parts,
-            answers.join(", ")
+            by_number(&self.answers),
+            by_number(&self.at_once_answers)
         )
     }
+}
+
+/// How often each number was answered.
+fn by_number(answers: &[u64; 10]) -> String {
+    let counts: Vec<String> = (0..10).map(|k| format!("{k}: {}", answers[k])).collect();
+    counts.join(", ")
 }
 
 fn equal(a: f32, b: f32, rule: Rule) -> bool {

@@ -89,9 +89,8 @@ pub fn tail(effect: &mut ReverbEffect) -> (Reply, Vec<f32>) {
 
 fn reply(verdict: AudioEffectState) -> Reply {
     Reply {
-        number: 0,
-        index: 0,
         remaining: matches!(verdict, AudioEffectState::TailRemaining),
+        ..Reply::plain(0)
     }
 }
 

@@ -1,6 +1,7 @@
 //! Requests that have to be refused: a request and a copy of the world with one or more things wrong in them.
 
 use crate::dice::Dice;
+use crate::frames;
 use crate::law;
 use crate::sounds;
 use crate::world::{Lent, Request, World};
@@ -13,6 +14,7 @@ pub fn spoiled(dice: &mut Dice, world: &World) -> (World, Request) {
         if dice.once_in(3) {
             spoil_given(dice, &mut copy, &mut request);
         } else {
+            lend_frames(dice, &mut copy, request);
             for _ in 0..dice.below(3) {
                 spoil(dice, &mut copy, &mut request);
             }
@@ -26,7 +28,7 @@ pub fn spoiled(dice: &mut Dice, world: &World) -> (World, Request) {
 /// Any request, in turn or not, with arguments that may well be accepted.
 pub fn any_request(dice: &mut Dice) -> Request {
     let line = dice.below(16);
-    match dice.below(11) {
+    match dice.below(12) {
         0 => Request::Reset,
         1 => Request::Apply(sounds::times(dice)),
         2 => Request::Tail,
@@ -37,14 +39,38 @@ pub fn any_request(dice: &mut Dice) -> Request {
         7 => Request::Line(line),
         8 => Request::Output,
         9 => Request::Close,
+        10 => Request::Frames(sounds::times(dice)),
         _ => Request::Abandon,
     }
 }
 
-/// An apply of which nothing is wrong but the times, the coefficients or the input.
+/// Lends several frames at once what they take: none, a few, or where frames are small one too many. Now and then the
+/// last isn't whole, in the input and in the output.
+fn lend_frames(dice: &mut Dice, world: &mut World, request: Request) {
+    let Request::Frames(_) = request else {
+        return;
+    };
+    let few = frames::few(dice, world.state.frame);
+    let many = if world.state.frame > 12 {
+        few
+    } else {
+        law::MOST_FRAMES + 1
+    };
+    let count = dice.pick(&[0, few, few, few, many]);
+    let sound = sounds::sound(dice);
+    frames::lend(dice, world, sound, count);
+    if dice.once_in(8) {
+        let length = world.input.len() + dice.between(1, world.state.frame - 1);
+        world.input = resized(&world.input, length);
+        world.output = resized(&world.output, length);
+    }
+}
+
+/// An apply, of one frame or several, of which nothing is wrong but the times, the coefficients or the input.
 fn spoil_given(dice: &mut Dice, world: &mut World, request: &mut Request) {
     let times = sounds::times(dice);
-    *request = dice.pick(&[Request::Apply(times), Request::OpenApply(times)]);
+    *request = dice.pick(&[Request::Apply(times), Request::OpenApply(times), Request::Frames(times)]);
+    lend_frames(dice, world, *request);
     match dice.below(4) {
         0 => spoil_times(dice, request),
         1 => spoil_floats(dice, &mut world.coefficients),
@@ -101,8 +127,13 @@ fn spoil_length(dice: &mut Dice, world: &mut World) {
         2 => 0,
         _ => dice.below(2 * slice.len() + 1),
     };
+    *slice = resized(slice, length);
+}
+
+/// A slice cut, or made longer by NaNs.
+fn resized(slice: &[f32], length: usize) -> Lent {
     let floats = slice.iter().copied().chain(std::iter::repeat(f32::NAN));
-    *slice = Lent::from(floats.take(length).collect::<Vec<f32>>());
+    Lent::from(floats.take(length).collect::<Vec<f32>>())
 }
 
 /// Asks for a line that isn't there.
@@ -116,7 +147,7 @@ fn spoil_line(dice: &mut Dice, request: &mut Request) {
 
 /// Makes one time or more wrong.
 fn spoil_times(dice: &mut Dice, request: &mut Request) {
-    if let Request::Apply(times) | Request::OpenApply(times) = request {
+    if let Request::Apply(times) | Request::Frames(times) | Request::OpenApply(times) = request {
         for _ in 0..dice.between(1, 2) {
             times[dice.below(3)] = sounds::bad_time(dice);
         }
@@ -124,7 +155,7 @@ fn spoil_times(dice: &mut Dice, request: &mut Request) {
 }
 
 /// Puts some NaNs and infinities into a slice.
-fn spoil_floats(dice: &mut Dice, floats: &mut Lent) {
+pub fn spoil_floats(dice: &mut Dice, floats: &mut Lent) {
     for _ in 0..dice.between(1, 3) {
         if !floats.is_empty() {
             let at = dice.below(floats.len());

@@ -13,16 +13,37 @@ pub fn step(
     request: Request,
     effect: &mut ReverbEffect,
 ) -> Result<Reply, Difference> {
-    journal.call(format_args!("{request:?}, F {}", world.state.frame));
+    journal.call(format_args!(
+        "{request:?}, F {}, input of {}",
+        world.state.frame,
+        world.input.len()
+    ));
     let (reply, next) = expected(world, request, effect);
     let said = ask(world, request);
     journal.same("number", said.number, reply.number)?;
     journal.same("index", said.index, reply.index)?;
+    journal.same("done", said.done, reply.done)?;
     journal.same("remaining", said.remaining, reply.remaining)?;
-    let refused = (1..=8).contains(&reply.number);
-    same_world(journal, world, &next, if refused { Rule::Bytes } else { Rule::Numbers })?;
+    same_world(journal, world, &next, rule(request, reply))?;
     journal.answers[reply.number as usize] += 1;
+    if let Request::Frames(_) = request {
+        // What was played is finite, and the rest must be as it was, NaNs too.
+        journal.floats("output", &world.output, &next.output, Rule::Bytes)?;
+        journal.at_once += reply.done as u64;
+        journal.at_once_answers[reply.number as usize] += 1;
+    }
     Ok(reply)
+}
+
+/// Bit for bit where nothing may have moved: refused before any frame, or several frames that are none.
+fn rule(request: Request, reply: Reply) -> Rule {
+    let refused = (1..=8).contains(&reply.number);
+    let none_given = matches!(request, Request::Frames(_)) && reply.number == 0;
+    if reply.done == 0 && (refused || none_given) {
+        Rule::Bytes
+    } else {
+        Rule::Numbers
+    }
 }
 
 /// Compares states and all memory, margins too.

@@ -1,6 +1,6 @@
 //! A unit with the memory that is lent to it, and the requests that are made of it.
 
-use hall::{Answer, State};
+use hall::{FramesAnswer, State};
 use std::ops::{Deref, DerefMut};
 
 /// Floats that are lent, between margins that nobody may write to.
@@ -81,6 +81,7 @@ impl World {
 pub enum Request {
     Reset,
     Apply([f32; 3]),
+    Frames([f32; 3]),
     Tail,
     OpenApply([f32; 3]),
     OpenTail,
@@ -92,11 +93,12 @@ pub enum Request {
     Abandon,
 }
 
-/// What a call answers beside the state.
+/// What a call answers beside the state. Only several frames at once say how many were done; else that is 0.
 #[derive(Copy, Clone, Debug, PartialEq)]
 pub struct Reply {
     pub number: u32,
     pub index: usize,
+    pub done: i32,
     pub remaining: bool,
 }
 
@@ -106,6 +108,7 @@ impl Reply {
         Reply {
             number,
             index: 0,
+            done: 0,
             remaining: false,
         }
     }
@@ -113,9 +116,10 @@ impl Reply {
 
 /// Makes a request of the library.
 pub fn ask(world: &mut World, request: Request) -> Reply {
-    let Answer {
+    let FramesAnswer {
         number,
         index,
+        done,
         remaining,
         state,
     } = call(world, request);
@@ -123,11 +127,13 @@ pub fn ask(world: &mut World, request: Request) -> Reply {
     Reply {
         number,
         index,
+        done,
         remaining,
     }
 }
 
-fn call(world: &mut World, request: Request) -> Answer {
+/// The answer as several frames give it; that of any other call has none done.
+fn call(world: &mut World, request: Request) -> FramesAnswer {
     let World {
         state,
         coefficients,
@@ -136,7 +142,10 @@ fn call(world: &mut World, request: Request) -> Answer {
         work,
         output,
     } = world;
-    match request {
+    let answer = match request {
+        Request::Frames([t0, t1, t2]) => {
+            return hall::apply_frames(*state, t0, t1, t2, coefficients, input, store, work, output);
+        }
         Request::Reset => hall::reset(*state, store),
         Request::Apply([t0, t1, t2]) => hall::apply(*state, t0, t1, t2, coefficients, input, store, work, output),
         Request::Tail => hall::tail(*state, store, work, output),
@@ -148,5 +157,12 @@ fn call(world: &mut World, request: Request) -> Answer {
         Request::Output => hall::job_output(*state, work),
         Request::Close => hall::close(*state, store, work, output),
         Request::Abandon => hall::abandon(*state, work),
+    };
+    FramesAnswer {
+        number: answer.number,
+        index: answer.index,
+        done: 0,
+        remaining: answer.remaining,
+        state: answer.state,
     }
 }

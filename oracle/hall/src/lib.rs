@@ -71,6 +71,17 @@ pub struct Answer {
     pub state: State,
 }
 
+/// What several frames at once answer.
+#[repr(C)]
+#[derive(Copy, Clone)]
+pub struct FramesAnswer {
+    pub number: u32,
+    pub index: usize,
+    pub done: i32,
+    pub remaining: bool,
+    pub state: State,
+}
+
 #[repr(C)]
 #[derive(Copy, Clone, Debug, PartialEq)]
 pub struct RingAnswer {
@@ -138,6 +149,8 @@ face! {
     hall_reset as reset(s: State, store: lent,) -> Answer;
     hall_apply as apply(s: State, t0: f32, t1: f32, t2: f32, coefficients: shared, input: shared, store: lent, work: lent,
         output: lent,) -> Answer;
+    hall_apply_frames as apply_frames(s: State, t0: f32, t1: f32, t2: f32, coefficients: shared, input: shared, store: lent,
+        work: lent, output: lent,) -> FramesAnswer;
     hall_tail as tail(s: State, store: lent, work: lent, output: lent,) -> Answer;
     hall_open_apply as open_apply(s: State, t0: f32, t1: f32, t2: f32, coefficients: shared, input: shared, store: shared,
         work: lent,) -> Answer;

@@ -1,11 +1,12 @@
 //! States that no call gave: any cursors, filters, counts and marks, on memory that holds anything.
 
 use crate::dice::Dice;
+use crate::frames;
 use crate::law;
 use crate::report::{Check, Journal};
 use crate::rust_unit;
 use crate::sounds;
-use crate::spoil::{any_request, spoiled};
+use crate::spoil::{any_request, spoil_floats, spoiled};
 use crate::step::step;
 use crate::trials::runs::world_of;
 use crate::world::{Lent, Request, World};
@@ -14,7 +15,7 @@ use hall::{Cursors, Filter, State};
 /// How many requests are made of forged states in a trial.
 const REQUESTS: usize = 4;
 
-/// No frame open: whole calls, opens and resets.
+/// No frame open: whole calls, opens and resets, and several frames at once.
 pub fn closed(dice: &mut Dice, journal: &mut Journal, frame: usize) -> Check {
     for _ in 0..REQUESTS {
         let mut world = forged(dice, frame);
@@ -24,6 +25,21 @@ pub fn closed(dice: &mut Dice, journal: &mut Journal, frame: usize) -> Check {
             4 => Request::OpenApply(sounds::times(dice)),
             _ => dice.pick(&[Request::OpenTail, Request::Reset]),
         };
+        ask_forged(dice, journal, &mut world, request)?;
+    }
+    several(dice, journal, frame)
+}
+
+/// Several frames at once, half of the time with bad samples in them.
+fn several(dice: &mut Dice, journal: &mut Journal, frame: usize) -> Check {
+    for _ in 0..REQUESTS {
+        let mut world = forged(dice, frame);
+        let (sound, count) = (sounds::sound(dice), frames::few(dice, frame));
+        frames::lend(dice, &mut world, sound, count);
+        if dice.once_in(2) {
+            spoil_floats(dice, &mut world.input);
+        }
+        let request = Request::Frames(sounds::times(dice));
         ask_forged(dice, journal, &mut world, request)?;
     }
     Ok(())

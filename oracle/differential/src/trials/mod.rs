@@ -6,6 +6,7 @@ mod mixes;
 mod powers;
 mod rings;
 mod runs;
+mod several;
 mod values;
 
 use crate::dice::Dice;
@@ -13,6 +14,7 @@ use crate::report::{Check, Journal};
 use crate::sounds::FRAMES;
 
 pub use powers::all_powers;
+pub use several::several_frames;
 
 /// The trials take turns over these. Each unit kind meets each class of frames in turn.
 const TURNS: usize = 10;

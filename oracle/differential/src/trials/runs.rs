@@ -1,12 +1,13 @@
-//! A unit that plays: applies, tails and resets, whole and as jobs, with refused requests in between.
+//! A unit that plays: applies, tails and resets, whole, several at once and as jobs, with refused requests in between.
 
 use crate::dice::Dice;
 use crate::expected::expected;
+use crate::frames;
 use crate::law;
 use crate::report::{Check, Difference, Journal, Rule};
 use crate::rust_unit;
 use crate::sounds::{self, Sound};
-use crate::spoil::spoiled;
+use crate::spoil::{spoil_floats, spoiled};
 use crate::step::{same_state, same_world, step};
 use crate::world::{Lent, Request, World};
 use phonon::effects::reverb::ReverbEffect;
@@ -25,7 +26,7 @@ struct Run {
     refused_in_a_row: u32,
 }
 
-/// Plays so many accepted frames; one in `jobs` is played as jobs.
+/// Plays so many accepted frames; one in `jobs` is played as jobs. Those that are handed over together come on top.
 pub fn run(dice: &mut Dice, journal: &mut Journal, frame: usize, frames: u64, jobs: usize) -> Check {
     let mut run = begin(dice, journal, frame)?;
     let mut accepted = 0;
@@ -38,6 +39,9 @@ pub fn run(dice: &mut Dice, journal: &mut Journal, frame: usize, frames: u64, jo
         }
         if dice.once_in(100) || run.refused_in_a_row > 2 {
             run.reset(dice, journal)?;
+        }
+        if dice.once_in(6) {
+            run.frames_at_once(dice, journal)?;
         }
         accepted += u64::from(if dice.once_in(jobs) {
             run.frame_as_jobs(dice, journal)?
@@ -183,6 +187,20 @@ impl Run {
         journal.applies += u64::from(accepted && !tail);
         self.note(accepted);
         Ok(accepted)
+    }
+
+    /// Several frames at once, now and then with bad samples in them. Then one frame is lent again.
+    fn frames_at_once(&mut self, dice: &mut Dice, journal: &mut Journal) -> Check {
+        let count = frames::few(dice, self.world.state.frame);
+        frames::lend(dice, &mut self.world, self.sound, count);
+        if dice.once_in(4) {
+            spoil_floats(dice, &mut self.world.input);
+        }
+        let request = Request::Frames(self.times);
+        let reply = step(journal, &mut self.world, request, &mut self.effect)?;
+        self.note(reply.number == 0);
+        frames::lend(dice, &mut self.world, self.sound, 1);
+        Ok(())
     }
 
     fn note(&mut self, accepted: bool) {
