@@ -13,6 +13,9 @@ const ROUNDS: usize = 41;
 const RATE: u32 = 48_000;
 const TIMES: [f32; 3] = [0.5; 3];
 
+/// How many frames are handed over together.
+const TOGETHER: usize = 64;
+
 fn main() {
     if !hall::LINKED {
         println!(
@@ -23,6 +26,7 @@ fn main() {
     for frame in [4, 128, 1_024] {
         beside_the_rust(frame);
     }
+    at_once_beside_singly();
     against_frames();
 }
 
@@ -30,7 +34,7 @@ fn main() {
 fn beside_the_rust(frame: usize) {
     let mut bench = Bench::new(frame);
     let kinds = [Kind::Apply, Kind::RustApply, Kind::Tail, Kind::RustTail, Kind::Jobs];
-    let times = bench.measured(&kinds);
+    let times = bench.measured(&kinds, ROUNDS);
     println!(
         "F {frame}, ns a frame, best and median of {ROUNDS} rounds of {} frames",
         bench.frames
@@ -50,12 +54,35 @@ fn beside_the_rust(frame: usize) {
     println!("(the Rust has no jobs: theirs stand beside its apply)\n");
 }
 
+/// Frames handed over together beside an apply for each, and what the best of rounds may be at most. The two lie close
+/// together, and small frames are soon played: so the rounds are more.
+fn at_once_beside_singly() {
+    println!("{TOGETHER} frames at once beside {TOGETHER} applies, ns a frame, best and median of rounds");
+    println!(
+        "    F  rounds   at once: best   median   singly: best   median   at once/singly: best   median   at most"
+    );
+    for (frame, bar) in [(4, 0.8), (128, 1.03), (1_024, 1.03)] {
+        let rounds = (40_960 / frame).clamp(4 * ROUNDS, 64 * ROUNDS);
+        let mut bench = Bench::new(frame);
+        bench.try_both_ways();
+        let [[a, b], [c, d]] = bench.measured(&[Kind::AtOnce, Kind::Singly], rounds)[..] else {
+            unreachable!()
+        };
+        println!(
+            "{frame:>5} {rounds:>7} {a:>15.0} {b:>8.0} {c:>14.0} {d:>8.0} {:>22.3} {:>8.3} {bar:>9.2}",
+            a / c,
+            b / d
+        );
+    }
+    println!();
+}
+
 /// What an apply costs as the frame grows.
 fn against_frames() {
     println!("An apply against F, median ns");
     println!("    F   hall: frame   sample   Rust: frame   sample   hall/Rust");
     for frame in [4, 8, 12, 100, 128, 556, 1_020, 1_024] {
-        let [[_, ours], [_, rust]] = Bench::new(frame).measured(&[Kind::Apply, Kind::RustApply])[..] else {
+        let [[_, ours], [_, rust]] = Bench::new(frame).measured(&[Kind::Apply, Kind::RustApply], ROUNDS)[..] else {
             unreachable!()
         };
         let f = frame as f64;
@@ -74,6 +101,8 @@ enum Kind {
     Apply,
     Tail,
     Jobs,
+    AtOnce,
+    Singly,
     RustApply,
     RustTail,
 }
@@ -87,6 +116,8 @@ struct Bench {
     store: Vec<f32>,
     work: Vec<f32>,
     output: Vec<f32>,
+    inputs: Vec<f32>,
+    outputs: Vec<f32>,
     effect: ReverbEffect,
 }
 
@@ -105,6 +136,8 @@ impl Bench {
             store,
             work: vec![0.0; 34 * frame + 1_348],
             output: vec![0.0; frame],
+            inputs: noise(TOGETHER * frame),
+            outputs: vec![0.0; TOGETHER * frame],
             effect: ReverbEffect::new(AudioSettings::new(RATE, frame)),
         };
         bench.effect.give(&bench.coefficients);
@@ -121,9 +154,9 @@ impl Bench {
     }
 
     /// Best and median nanoseconds a frame of each kind.
-    fn measured(&mut self, kinds: &[Kind]) -> Vec<[f64; 2]> {
+    fn measured(&mut self, kinds: &[Kind], rounds: usize) -> Vec<[f64; 2]> {
         let mut times = vec![Vec::new(); kinds.len()];
-        for _ in 0..ROUNDS {
+        for _ in 0..rounds {
             for (kind, times) in kinds.iter().zip(&mut times) {
                 times.push(self.round(*kind));
             }
@@ -135,8 +168,32 @@ impl Bench {
     fn round(&mut self, kind: Kind) -> f64 {
         match kind {
             Kind::RustApply | Kind::RustTail => self.rusts(kind, self.frames).2,
+            Kind::AtOnce | Kind::Singly => self.together(kind).1,
             _ => self.ours(kind, self.frames).2,
         }
+    }
+
+    /// The frames that go together, on a copy of the library's unit: the store, and nanoseconds a frame.
+    fn together(&mut self, kind: Kind) -> (Vec<f32>, f64) {
+        let (state, mut store) = (self.state, self.store.clone());
+        let start = Instant::now();
+        match kind {
+            Kind::AtOnce => self.at_once(state, &mut store),
+            _ => self.singly(state, &mut store),
+        }
+        (store, nanoseconds(start, TOGETHER))
+    }
+
+    /// Both ways must leave the same sound, or their times say nothing.
+    fn try_both_ways(&mut self) {
+        let (store, _) = self.together(Kind::AtOnce);
+        let outputs = self.outputs.clone();
+        self.outputs.fill(0.0);
+        let (store_singly, _) = self.together(Kind::Singly);
+        assert!(
+            same(&outputs, &self.outputs) && same(&store, &store_singly),
+            "frames at once and singly differ: run the differential first"
+        );
     }
 
     /// So many frames of the library on a copy of its unit: the state, the store, and nanoseconds a frame.
@@ -171,6 +228,26 @@ impl Bench {
         };
         assert!(answer.number == 0, "a frame was refused with {}", answer.number);
         answer.state
+    }
+
+    /// The frames that go together, handed over at once.
+    fn at_once(&mut self, s: State, store: &mut [f32]) {
+        let [t0, t1, t2] = TIMES;
+        let (c, input, work, output) = (&self.coefficients, &self.inputs, &mut self.work, &mut self.outputs);
+        let answer = hall::apply_frames(s, t0, t1, t2, c, black_box(input), store, work, output);
+        assert!(answer.number == 0, "frames were refused with {}", answer.number);
+    }
+
+    /// The same frames, an apply each.
+    fn singly(&mut self, mut s: State, store: &mut [f32]) {
+        let [t0, t1, t2] = TIMES;
+        let (c, work, frame) = (&self.coefficients, &mut self.work, self.input.len());
+        let outputs = self.outputs.chunks_exact_mut(frame);
+        for (input, output) in self.inputs.chunks_exact(frame).zip(outputs) {
+            let answer = hall::apply(s, t0, t1, t2, c, black_box(input), store, work, output);
+            assert!(answer.number == 0, "a frame was refused with {}", answer.number);
+            s = answer.state;
+        }
     }
 
     /// One apply of the library as jobs.
