@@ -41,7 +41,8 @@
  *
  * Every rule stands in docs/RULES.md, by number: R1.19 is the length of a store.
  *
- * THE NUMBER OF AN ANSWER (R2). Where several apply it is the least. A refused call hands the state back as it
+ * THE NUMBER OF AN ANSWER (R2). Where several apply it is the least, of hall_apply_frames that of the first frame
+ * refused: a 9 there hides an 8 in a later frame. A refused call hands the state back as it
  * was given and leaves every lent slice as it was, 9 aside. Of hall_apply_frames that holds from the refused frame
  * on: the frames before it stay done, and the state is the one after them.
  *
@@ -183,9 +184,10 @@ hall_answer hall_apply(hall_state s, float t0, float t1, float t2, const float *
  * number of frames or the output isn't as long, 4 above 1,024 frames.
  * 1 to 7 are judged once, before the first frame: refused so, nothing changes and `done` is 0. Then each frame is
  * judged by 8 and 9, and the first that is refused ends the call. `done` frames stay done, with the state and the
- * store after them; the output is untouched from the refused frame on, and `index` counts within that frame. Go on
- * with the answer's state, refused or not: hand over input and output from `done` times F on, an 8 mended; for a 9
- * see above. With 0 `done` is n.
+ * store after them; the output is untouched from the refused frame on, and `index` counts within that frame. With 0
+ * `done` is n. Go on with the answer's state, refused or not. After an 8 mend that frame, and hand over what is left
+ * of input and output, from `done` times F on. After a 9 play silence for that frame, and hand over what is behind
+ * it, from (`done` + 1) times F on; or see 9 above.
  * A refused call's `remaining` is false, though state.count may be above 0 after the frames done. Work is all +0
  * once a frame was done or a 9 was met, and else as it was. With no frames nothing changes, and `remaining` says
  * whether state.count is above 0. */
