@@ -6,15 +6,15 @@ use native.Mathlib.Nat.{add-assoc}
 use native.Mathlib.Numerals.{add-one}
 use native.Mathlib.Omega.{arith}
 use lib.Dec.{T}
-use lib.ListN.{length, getD, take, drop, set, replicate, length-drop, drop-of-length-le}
+use lib.ListN.{length, getD, take, drop, set, replicate, drop-of-length-le}
 use lib.Seq.{drop-drop, take-suc, take-at, drop-at, take-length, length-take-le, sets-eq}
 use lib.Ieee.{Float, nan, binary32, fits, ofBits, toBits}
 use lib.Ieee.Bits.{ofBits-toBits, toBits-lt}
-use borrow.Author.Tests.{le-leb, lt-leb}
 use Rattle.samples.specs.Binary32.{+0}
 use Rattle.samples.specs.Lists.{over}
 use Rattle.samples.proofs.Turns.{more, next}
-use Rattle.wire.specs.Wire.{valueOf, bytesOf, firstSample, decoded, encoded, DecodedEncoded, written}
+use Rattle.wire.proofs.Unpacking.{first-whole}
+use Rattle.wire.specs.Wire.{valueOf, bytesOf, decoded, encoded, DecodedEncoded, written}
 
 -- ---- four bytes
 
@@ -36,25 +36,10 @@ four-stored out at a b c d h =
     let three : at + 3 ≡ suc (suc (suc at)) = omega arith in
     rw (one, two, three) (sets-eq (a ∷ b ∷ c ∷ d ∷ []) out at h ∙ append-assoc (take at out) (a ∷ b ∷ c ∷ d ∷ []) (drop (at + 4) out))
 
--- ---- decoding
-
-first-whole : (bytes : List ℕ) → 4 ≤ length bytes → firstSample bytes ≡ ofBits binary32 (valueOf (take 4 bytes))
-unfolding firstSample
-first-whole bytes h = rw (le-leb 4 (length bytes) h)
-
-pub first-at : (bytes : List ℕ) (at : ℕ) → at + 4 ≤ length bytes
-    → firstSample (drop at bytes) ≡ ofBits binary32 (valueOf (getD bytes at 0 ∷ getD bytes (at + 1) 0 ∷ getD bytes (at + 2) 0 ∷ getD bytes (at + 3) 0 ∷ []))
-first-at bytes at h = first-whole (drop at bytes) (simp length-drop (omega arith)) ∙ ap (λ (four : List ℕ). ofBits binary32 (valueOf four)) (four-read bytes at h)
-
-pub first-short : (bytes : List ℕ) → length bytes < 4 → firstSample bytes ≡ +0
-unfolding firstSample
-first-short bytes h = rw (lt-leb 4 (length bytes) h)
-
-pub decoded-more : (bytes : List ℕ) (n i : ℕ) → i < n
-    → decoded (n - i) (drop (4 * i) bytes) ≡ firstSample (drop (4 * i) bytes) ∷ decoded (n - (i + 1)) (drop (4 * (i + 1)) bytes)
-decoded-more bytes n i h =
-    let f : 4 * i + 4 ≡ 4 * (i + 1) = omega arith in
-    rw (more n i h, drop-drop, f)
+-- the number of four bytes
+pub four-at : (bytes : List ℕ) (at : ℕ) → at + 4 ≤ length bytes
+    → valueOf (take 4 (drop at bytes)) ≡ valueOf (getD bytes at 0 ∷ getD bytes (at + 1) 0 ∷ getD bytes (at + 2) 0 ∷ getD bytes (at + 3) 0 ∷ [])
+four-at bytes at h = ap valueOf (four-read bytes at h)
 
 -- ---- encoding
 
@@ -98,7 +83,7 @@ value-back n h = omega arith
 pub decoded-front : (xs : List Float) (rest : List ℕ) → ((i : ℕ) → T (fits binary32 (getD xs i nan))) → decoded (length xs) (encoded xs ++ rest) ≡ xs
 decoded-front [] rest f = refl
 decoded-front (x ∷ xs) rest f =
-    let whole = first-whole (bytesOf 4 (toBits binary32 x) ++ (encoded xs ++ rest)) (omega arith) in
+    let whole = first-whole 4 (ofBits binary32) (bytesOf 4 (toBits binary32 x) ++ (encoded xs ++ rest)) (omega arith) in
     let value = ap (ofBits binary32) (value-back (toBits binary32 x) (toBits-lt binary32 x (f 0))) ∙ ofBits-toBits binary32 x (f 0) in
     λ j. (whole ∙ value) j ∷ decoded-front xs rest (λ i. f (suc i)) j
 

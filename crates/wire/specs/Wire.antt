@@ -1,4 +1,4 @@
--- R9.4: how floats lie in bytes, four each, the lowest byte first.
+-- R9.4: how floats lie in bytes, the lowest byte first: of any number of bytes each, and of four.
 use mathlib.Core.Path.{_≡_}
 use mathlib.Core.Bool.{cond}
 use mathlib.Core.List.{List, [], _∷_, _++_}
@@ -18,14 +18,18 @@ abbrev pub bytesOf : ℕ → ℕ → List ℕ
 bytesOf zero n = []
 bytesOf (suc k) n = n % 256 ∷ bytesOf k (n / 256)
 
--- R9.16: the float of the first four bytes, and +0 where there are not four
-unfoldable pub firstSample : List ℕ → Float
-firstSample bytes = cond (leb 4 (length bytes)) (ofBits binary32 (valueOf (take 4 bytes))) +0
+-- R9.16: the float that f makes of the first k bytes, and +0 where there are not so many
+unfoldable pub firstOf : ℕ → (ℕ → Float) → List ℕ → Float
+firstOf k f bytes = cond (leb k (length bytes)) (f (valueOf (take k bytes))) +0
+
+-- n floats, k bytes each
+abbrev pub unpacked : ℕ → (ℕ → Float) → ℕ → List ℕ → List Float
+unpacked k f zero bytes = []
+unpacked k f (suc n) bytes = firstOf k f bytes ∷ unpacked k f n (drop k bytes)
 
 -- R9.16: n floats, four bytes each
 abbrev pub decoded : ℕ → List ℕ → List Float
-decoded zero bytes = []
-decoded (suc n) bytes = firstSample bytes ∷ decoded n (drop 4 bytes)
+decoded n bytes = unpacked 4 (ofBits binary32) n bytes
 
 -- R9.17, R9.18: four bytes for each float. NaN's are those of the quiet NaN 7fc00000
 abbrev pub encoded : List Float → List ℕ
