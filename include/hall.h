@@ -4,7 +4,8 @@
  * holds the unit's state, which each call takes by value and hands back in its answer. One frame of F
  * samples goes in, one comes out. A call is made whole (hall_apply, hall_tail) or as 34 jobs (hall_open_..,
  * hall_job_.., hall_close), which give the same, bit for bit, in any order that the rules below allow. Up to
- * 1,024 frames of input may be handed over together (hall_apply_frames).
+ * 1,024 frames of input may be handed over together (hall_apply_frames). Beside the unit stand its parts, and a
+ * reader of studio takes (hall_wave_read).
  *
  * A whole example: one click, then the tail until it has died away.
  *
@@ -41,10 +42,11 @@
  *
  * Every rule stands in docs/RULES.md, by number: R1.19 is the length of a store.
  *
- * THE NUMBER OF AN ANSWER (R2). Where several apply it is the least, of hall_apply_frames that of the first frame
- * refused: a 9 there hides an 8 in a later frame. A refused call hands the state back as it
- * was given and leaves every lent slice as it was, 9 aside. Of hall_apply_frames that holds from the refused frame
- * on: the frames before it stay done, and the state is the one after them.
+ * THE NUMBER OF AN ANSWER (R2), of every call but hall_wave_read, whose table stands at it. Where several apply it
+ * is the least, of hall_apply_frames that of the first frame refused: a 9 there hides an 8 in a later frame. A
+ * refused call hands the state back as it was given and leaves every lent slice as it was, 9 aside. Of
+ * hall_apply_frames that holds from the refused frame on: the frames before it stay done, and the state is the one
+ * after them.
  *
  *   0  accepted.
  *   1  the state is out of range (R1.27): its rate or frame (see 2), a cursor that isn't below its ring's
@@ -80,10 +82,10 @@
  * nothing but the unit's own calls writes its state and its store. A stretch of the store that is lent to a call
  * as work memory or as output is written as such: a job may leave an infinity there, and answer 0.
  *
- * A slice is a pointer and a count of floats, not of bytes. A const slice is never written. A state is 4,056
- * bytes and an answer 4,080, by value: leave room for a few of them on the stack. The layouts below are those
- * of x86-64 and of 64-bit Arm, which are the same. The library calls C's memcpy, memmove and memset, and wants
- * floats rounded to nearest and the smallest ones kept, as a C program begins.
+ * A slice is a pointer and a count of what it points to: of floats, not of their bytes. A const slice is never
+ * written. A state is 4,056 bytes and an answer 4,080, by value: leave room for a few of them on the stack. The
+ * layouts below are those of x86-64 and of 64-bit Arm, which are the same. The library calls C's memcpy, memmove
+ * and memset, and wants floats rounded to nearest and the smallest ones kept, as a C program begins.
  */
 #ifndef HALL_H
 #define HALL_H
@@ -97,7 +99,7 @@ extern "C" {
 #endif
 
 /* Changes whenever a struct or a function below does. A state may only go to the version that gave it. */
-#define HALL_VERSION 2
+#define HALL_VERSION 3
 
 /* The floats to lend for frames of F samples, and for the filters. */
 #define HALL_STORE(F) (7600 + 16 * (size_t)(F))
@@ -160,6 +162,15 @@ typedef struct {
     uint32_t number;
     uint32_t value;
 } hall_value;
+
+/* What is read of a take. Its number is of a table of its own (see hall_wave_read). Where it isn't 0, all behind
+ * `place` is 0. */
+typedef struct {
+    uint32_t number;
+    size_t place;                    /* where the refused chunk's header begins, with 3, 4 and 6; else 0 */
+    uint32_t rate, channels, tag;    /* tag 1: whole numbers of 16 bits; tag 3: floats of 32 */
+    size_t data, data_len;           /* the data, as a stretch of the file: where it begins, and its bytes */
+} hall_wave;
 
 /* ---- Whole frames (R4). Store is HALL_STORE(F) floats, work HALL_WORK(F), input and output F each frame. ----
  * The store is kept from call to call. Work may hold anything before a call and is all +0 after one that was
@@ -292,6 +303,36 @@ uint32_t hall_downmix(size_t channels, size_t samples, const float *buffer, size
 /* 0 if `channel` lies in a buffer of `length` floats, where it begins at channel * samples. Answers 4 for the
  * counts, 3 for the length, 4 for the channel. */
 uint32_t hall_channel_number(size_t channels, size_t samples, size_t channel, size_t length);
+
+/* ---- Studio takes (R11): RIFF/WAVE files, in bytes that the caller lends. ---- */
+
+/* Reads the headers of a file up to its first `data` chunk, and says where the data lies; it copies nothing, and what
+ * is behind the data isn't looked at. The number:
+ *
+ *   0  accepted.
+ *   1  the file has more than 1,048,576 bytes.
+ *   2  it is no RIFF/WAVE, or has fewer than 12 bytes.
+ *   3  a chunk runs past the file's end: it was cut short, or written to a pipe, where no size can be set.
+ *   4  no `fmt ` chunk stands before the data.
+ *   5  there is no data: fewer than 8 bytes are left.
+ *   6  unsupported: a tag other than 1 with 16 bits and 3 with 32, channels 0 or above 16, a `fmt ` of fewer than 16
+ *      bytes, or data that isn't whole samples of all channels. 24 bits are common, and so is tag 0xFFFE: ffmpeg
+ *      writes it for floats and above 48,000 samples a second, sox and ffmpeg for more than two channels. The way
+ *      out is `sox take.wav -e floating-point -b 32 out.wav`, for most takes with a 3 too. It clips floats at full
+ *      scale, keeps the channels, and its file must be within 1,048,576 bytes in turn: twice those of 16 bits.
+ *
+ * The first chunk that is refused decides, at one chunk the least number. The rate may be any: hall_fresh judges it. */
+hall_wave hall_wave_read(const uint8_t *file, size_t file_len);
+
+/* Fills `out` with the floats of a take's data: of two bytes each where the tag is 1, divided by 32,768, else of four
+ * bytes each. Past the last whole one it is +0. The channels lie sample by sample, as hall_deinterleave takes them,
+ * up to 65,536 samples of each at a time. Never refused, whatever the bytes and the tag are; a float of 32 bits may be
+ * a NaN or an infinity.
+ *
+ *     hall_wave w = hall_wave_read(file, file_len);
+ *     if (w.number == 0)
+ *         hall_wave_samples(file + w.data, w.data_len, w.tag, out, w.data_len / (w.tag == 1 ? 2 : 4)); */
+void hall_wave_samples(const uint8_t *data, size_t data_len, uint32_t tag, float *out, size_t out_len);
 
 #ifdef __cplusplus
 }

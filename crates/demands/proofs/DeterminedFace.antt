@@ -34,4 +34,6 @@ face-determined = record {
   abandon = λ κs a x y s t p q. (p .0 ∙ sym (q .0), p .1 ∙ sym (q .1));
   filter-run = λ κs a x y s t p q. (p .0 ∙ sym (q .0), p .1 ∙ sym (q .1));
   mix16 = λ κs a x y s t p q. (p .0 ∙ sym (q .0), p .1 ∙ sym (q .1));
+  wave-read = λ κs a x y s t p q. p ∙ sym q;
+  wave-samples = λ κs a x y s t p q. p ∙ sym q;
 }

@@ -103,6 +103,14 @@ library-determined = record {
     decode = λ κs a x y s t p q. p ∙ sym q;
     encode = λ κs a x y s t p q. p ∙ sym q;
   };
+  wave = record {
+    read-number = λ κs a x y s t p q. p ∙ sym q;
+    read-place = λ κs a x y s t p q. p ∙ sym q;
+    take-of = λ κs a x y s t p q. p ∙ sym q;
+    read = λ κs a x y s t p q. p ∙ sym q;
+    «data» = λ κs a x y s t p q. p ∙ sym q;
+    floats = λ κs a x y s t p q. p ∙ sym q;
+  };
   unit = record {
     fresh-state = λ κs a x y s t p q. p ∙ sym q;
     quiet = λ κs a x y s t p q. p ∙ sym q;

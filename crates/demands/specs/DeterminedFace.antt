@@ -1,5 +1,5 @@
 -- The same of the C face.
-use Rattle.demands.specs.Determined.{Determined, DeterminedWith1, DeterminedWith3}
+use Rattle.demands.specs.Determined.{Determined, DeterminedExit, DeterminedWith1, DeterminedWith3}
 use Rattle.hall.proofs.hall_fresh.Kinds as hall-fresh-kinds
 use Rattle.hall.proofs.hall_fresh.Reads as hall-fresh-reads
 use Rattle.hall.proofs.hall_reset.Kinds as hall-reset-kinds
@@ -60,6 +60,10 @@ use Rattle.hall.proofs.hall_filter_run.Kinds as hall-filter-run-kinds
 use Rattle.hall.proofs.hall_filter_run.Reads as hall-filter-run-reads
 use Rattle.hall.proofs.hall_mix16.Kinds as hall-mix16-kinds
 use Rattle.hall.proofs.hall_mix16.Reads as hall-mix16-reads
+use Rattle.hall.proofs.hall_wave_read.Kinds as hall-wave-read-kinds
+use Rattle.hall.proofs.hall_wave_read.Reads as hall-wave-read-reads
+use Rattle.hall.proofs.hall_wave_samples.Kinds as hall-wave-samples-kinds
+use Rattle.hall.proofs.hall_wave_samples.Reads as hall-wave-samples-reads
 
 pub record FaceDetermined : Type 0 where
   pub fresh : DeterminedWith1 1 hall-fresh-kinds.ps hall-fresh-kinds.r hall-fresh-reads.Post (λ κs s. s .1 .1 .0 .now)
@@ -92,3 +96,5 @@ pub record FaceDetermined : Type 0 where
   pub abandon : DeterminedWith1 1 hall-abandon-kinds.ps hall-abandon-kinds.r hall-abandon-reads.Post (λ κs s. s .1 .0 .now)
   pub filter-run : DeterminedWith1 1 hall-filter-run-kinds.ps hall-filter-run-kinds.r hall-filter-run-reads.Post (λ κs s. s .1 .0 .now)
   pub mix16 : DeterminedWith1 2 hall-mix16-kinds.ps hall-mix16-kinds.r hall-mix16-reads.Post (λ κs s. s .1 .0 .now)
+  pub wave-read : Determined 1 hall-wave-read-kinds.ps hall-wave-read-kinds.r hall-wave-read-reads.Post
+  pub wave-samples : DeterminedExit 2 hall-wave-samples-kinds.ps hall-wave-samples-kinds.r hall-wave-samples-reads.Post (λ κs s. s .1 .1 .0 .now)

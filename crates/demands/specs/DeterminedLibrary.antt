@@ -130,6 +130,18 @@ use Rattle.wire.proofs.decode.Kinds as wire-decode-kinds
 use Rattle.wire.proofs.decode.Reads as wire-decode-reads
 use Rattle.wire.proofs.encode.Kinds as wire-encode-kinds
 use Rattle.wire.proofs.encode.Reads as wire-encode-reads
+use Rattle.wave.proofs.read_number.Kinds as wave-read-number-kinds
+use Rattle.wave.proofs.read_number.Reads as wave-read-number-reads
+use Rattle.wave.proofs.read_place.Kinds as wave-read-place-kinds
+use Rattle.wave.proofs.read_place.Reads as wave-read-place-reads
+use Rattle.wave.proofs.take_of.Kinds as wave-take-of-kinds
+use Rattle.wave.proofs.take_of.Reads as wave-take-of-reads
+use Rattle.wave.proofs.read.Kinds as wave-read-kinds
+use Rattle.wave.proofs.read.Reads as wave-read-reads
+use Rattle.wave.proofs.data.Kinds as wave-data-kinds
+use Rattle.wave.proofs.data.Reads as wave-data-reads
+use Rattle.wave.proofs.floats.Kinds as wave-floats-kinds
+use Rattle.wave.proofs.floats.Reads as wave-floats-reads
 use Rattle.unit.proofs.fresh_state.Kinds as unit-fresh-state-kinds
 use Rattle.unit.proofs.fresh_state.Reads as unit-fresh-state-reads
 use Rattle.unit.proofs.quiet.Kinds as unit-quiet-kinds
@@ -335,6 +347,14 @@ pub record WireDetermined : Type 0 where
   pub decode : DeterminedExit 2 wire-decode-kinds.ps wire-decode-kinds.r wire-decode-reads.Post (λ κs s. s .1 .0 .now)
   pub encode : DeterminedExit 2 wire-encode-kinds.ps wire-encode-kinds.r wire-encode-reads.Post (λ κs s. s .1 .0 .now)
 
+pub record WaveDetermined : Type 0 where
+  pub read-number : Determined 0 wave-read-number-kinds.ps wave-read-number-kinds.r wave-read-number-reads.Post
+  pub read-place : Determined 0 wave-read-place-kinds.ps wave-read-place-kinds.r wave-read-place-reads.Post
+  pub take-of : Determined 0 wave-take-of-kinds.ps wave-take-of-kinds.r wave-take-of-reads.Post
+  pub read : Determined 1 wave-read-kinds.ps wave-read-kinds.r wave-read-reads.Post
+  pub «data» : OneValue 1 wave-data-kinds.ps wave-data-kinds.r wave-data-reads.Post (λ κs x. now x)
+  pub floats : DeterminedExit 2 wave-floats-kinds.ps wave-floats-kinds.r wave-floats-reads.Post (λ κs s. s .1 .1 .0 .now)
+
 pub record UnitDetermined : Type 0 where
   pub fresh-state : Determined 0 unit-fresh-state-kinds.ps unit-fresh-state-kinds.r unit-fresh-state-reads.Post
   pub quiet : Determined 0 unit-quiet-kinds.ps unit-quiet-kinds.r unit-quiet-reads.Post
@@ -426,6 +446,7 @@ pub record LibraryDetermined : Type 0 where
   pub audio-buffer : AudioBufferDetermined
   pub levels : LevelsDetermined
   pub wire : WireDetermined
+  pub wave : WaveDetermined
   pub unit : UnitDetermined
   pub judges : JudgesDetermined
   pub stages : StagesDetermined

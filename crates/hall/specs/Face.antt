@@ -11,11 +11,14 @@ use Rattle.delay.specs.declared.RingAnswer.{RingAnswer}
 use Rattle.primes.specs.declared.Value.{Value}
 use Rattle.unit.specs.declared.Outcome.{Outcome}
 use Rattle.unit.specs.declared.FramesOutcome.{FramesOutcome}
+use Rattle.wave.specs.declared.Reading.{Reading}
+use Rattle.wave.specs.Reading.{readNumber, readPlace, takeOf}
 use Rattle.hall.specs.declared.HallAnswer.{HallAnswer}
 use Rattle.hall.specs.declared.HallFourAnswer.{HallFourAnswer}
 use Rattle.hall.specs.declared.HallFramesAnswer.{HallFramesAnswer}
 use Rattle.hall.specs.declared.HallRingAnswer.{HallRingAnswer}
 use Rattle.hall.specs.declared.HallValue.{HallValue}
+use Rattle.hall.specs.declared.HallWave.{HallWave}
 
 -- the verdict as one of two
 abbrev pub remains : AudioEffectState → Bool
@@ -51,6 +54,20 @@ facedFour r = record { number = numberOf (r .answer); cursors = r .cursors; x = 
 -- a delay value
 unfoldable pub facedValue : Value → HallValue
 facedValue v = record { number = numberOf (v .answer); value = v .value }
+
+-- R11.14: what is read of a take
+unfoldable pub facedWave : Reading → HallWave
+facedWave r =
+    let t = takeOf r in
+    record {
+      number = readNumber r;
+      place = readPlace r;
+      rate = t .format .rate;
+      channels = t .format .channels;
+      tag = t .format .tag;
+      first = t .first;
+      len = t .len;
+    }
 
 -- what C passes number by number: the times of the three bands, and four samples
 abbrev pub timesOf : Float → Float → Float → Times

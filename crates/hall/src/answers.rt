@@ -4,6 +4,7 @@ use crate::HallFourAnswer;
 use crate::HallFramesAnswer;
 use crate::HallRingAnswer;
 use crate::HallValue;
+use crate::HallWave;
 use audio_buffer::AudioEffectState;
 use delay::FourAnswer;
 use delay::RingAnswer;
@@ -12,8 +13,12 @@ use samples::index;
 use samples::number;
 use unit::FramesOutcome;
 use unit::Outcome;
+use wave::Reading;
+use wave::read_number;
+use wave::read_place;
+use wave::take_of;
 ghost use mathlib.Core.Path.{_≡_};
-ghost use Rattle.hall.specs.Face.{remains, faced, facedFrames, facedRing, facedFour, facedValue};
+ghost use Rattle.hall.specs.Face.{remains, faced, facedFrames, facedRing, facedFour, facedValue, facedWave};
 
 // Whether a verdict says that the tail has frames left.
 pub(crate) fn remains(verdict: AudioEffectState) -> bool
@@ -92,5 +97,22 @@ pub(crate) fn faced_value(v: Value) -> HallValue
     HallValue {
         number: number(answer),
         value: v.value,
+    }
+}
+
+// What is read of a take, for C.
+pub(crate) fn faced_wave(r: Reading) -> HallWave
+    ensures { λ h. ⌜ h ≡ facedWave r ⌝ }
+{
+    let t = take_of(r);
+    let f = t.format;
+    HallWave {
+        number: read_number(r),
+        place: read_place(r),
+        rate: f.rate,
+        channels: f.channels,
+        tag: f.tag,
+        first: t.first,
+        len: t.len,
     }
 }

@@ -8,6 +8,7 @@ mod delays;
 mod open_frames;
 mod rings;
 mod steps;
+mod takes;
 mod units;
 
 pub use buffers::hall_buffer_mix;
@@ -38,6 +39,8 @@ pub use rings::hall_ring_reset;
 use samples::Frames;
 pub use steps::hall_filter_run;
 pub use steps::hall_mix16;
+pub use takes::hall_wave_read;
+pub use takes::hall_wave_samples;
 use unit::State;
 pub use units::hall_apply;
 pub use units::hall_apply_frames;
@@ -84,4 +87,16 @@ pub struct HallFourAnswer {
 pub struct HallValue {
     pub number: u32,
     pub value: u32,
+}
+
+// What is read of a take: the number and the place of a refusal, the format, and where the data lies.
+#[repr(C)]
+pub struct HallWave {
+    pub number: u32,
+    pub place: usize,
+    pub rate: u32,
+    pub channels: u32,
+    pub tag: u32,
+    pub first: usize,
+    pub len: usize,
 }
