@@ -557,6 +557,8 @@ static void layout_of_the_sizes(void) {
     CHECK(ends_at(given, sizeof(hall_ring_answer), 0) && answered.whole.number == 0);
     given = OPENLY(hall_ring_get4, (const float *, size_t, hall_cursors), ring, 5, c);
     CHECK(ends_at(given, sizeof(hall_four_answer), 0) && answered.whole.number == 0);
+    given = OPENLY(hall_wave_read, (const uint8_t *, size_t), (const uint8_t *)"RIFF", 4);
+    CHECK(ends_at(given, sizeof(hall_wave), 0) && answered.whole.number == 2);
     given = OPENLY(hall_filter_run, (hall_filter, float *, size_t), f, ring, 5);
     CHECK(ends_at(given, sizeof(hall_filter), 0));
     hall_value v = hall_prime_power(3, 0);
