@@ -37,6 +37,17 @@ static slice take_slice(void) {
     return (slice){p, n};
 }
 
+/* A slice of bytes is passed as where in the floats it begins, and the count of its bytes. */
+typedef struct {
+    const uint8_t *p;
+    size_t n;
+} byte_slice;
+
+static byte_slice take_bytes(void) {
+    slice s = take_slice();
+    return (byte_slice){(const uint8_t *)s.p, s.n};
+}
+
 static bool is(const char *name) {
     return strcmp((const char *)shared + NAME, name) == 0;
 }
@@ -170,6 +181,16 @@ static bool buffer_call(void) {
     return is("hall_downmix") && GIVE(uint32_t, hall_downmix(channels, samples, a.p, a.n, b.p, b.n));
 }
 
+static bool wave_call(void) {
+    if (!is("hall_wave_read") && !is("hall_wave_samples")) return false;
+    byte_slice bytes = take_bytes();
+    if (is("hall_wave_read")) return GIVE(hall_wave, hall_wave_read(bytes.p, bytes.n));
+    uint32_t tag = TAKE(uint32_t);
+    slice out = take_slice();
+    hall_wave_samples(bytes.p, bytes.n, tag, out.p, out.n);
+    return true;
+}
+
 /* The powers of a prime near 0, 1, 2, .. at once: hall_prime_power as often as there is room. */
 static bool all_powers(void) {
     if (!is("powers")) return false;
@@ -184,7 +205,8 @@ static bool all_powers(void) {
 
 static bool play(void) {
     next = shared + ARGUMENTS;
-    return apply_call() || whole_call() || job() || ring_call() || part() || all_powers() || buffer_call();
+    return apply_call() || whole_call() || job() || ring_call() || part() || wave_call() ||
+           all_powers() || buffer_call();
 }
 
 int main(int count, char **words) {

@@ -29,6 +29,7 @@ pub struct Journal {
     pub parts: u64,
     pub answers: [u64; 10],
     pub at_once_answers: [u64; 10],
+    pub takes: [u64; 7],
     calls: u64,
     call: String,
 }
@@ -82,12 +83,13 @@ impl Journal {
         }
     }
 
-    /// All that was compared, in three lines.
+    /// All that was compared, in four lines.
     pub fn summary(&self) -> String {
         let frames = self.applies + self.tails + self.job_frames + self.at_once;
         format!(
             "frames accepted: {frames} ({} applies, {} tails, {} as jobs, {} at once), {} frames abandoned, {} jobs, \
-             {} calls of parts\nanswers by number: {}\nthose of several frames at once: {}",
+             {} calls of parts\nanswers by number: {}\nthose of several frames at once: {}\n\
+             takes: {} damaged files, answered {}",
             self.applies,
             self.tails,
             self.job_frames,
@@ -96,14 +98,16 @@ impl Journal {
             self.jobs,
             self.parts,
             by_number(&self.answers),
-            by_number(&self.at_once_answers)
+            by_number(&self.at_once_answers),
+            self.takes.iter().sum::<u64>(),
+            by_number(&self.takes)
         )
     }
 }
 
 /// How often each number was answered.
-fn by_number(answers: &[u64; 10]) -> String {
-    let counts: Vec<String> = (0..10).map(|k| format!("{k}: {}", answers[k])).collect();
+fn by_number(answers: &[u64]) -> String {
+    let counts: Vec<String> = (0..).zip(answers).map(|(k, count)| format!("{k}: {count}")).collect();
     counts.join(", ")
 }
 

@@ -104,8 +104,22 @@ pub struct Value {
     pub value: u32,
 }
 
+/// What stands in a studio take.
+#[repr(C)]
+#[derive(Copy, Clone, Debug, Default, PartialEq)]
+pub struct Wave {
+    pub number: u32,
+    pub place: usize,
+    pub rate: u32,
+    pub channels: u32,
+    pub tag: u32,
+    pub data: usize,
+    pub data_len: usize,
+}
+
 /// Declares each function of the header and a safe function on slices that calls it. Of an argument `shared` stands
-/// for a slice that is read, `lent` for one that may be written, and anything else for its own type.
+/// for a slice that is read, `bytes` for one of bytes, `lent` for one that may be written, and anything else for its own
+/// type.
 macro_rules! face {
     ($( $symbol:ident as $name:ident ( $($args:tt)* ) -> $answer:ty; )*) => {
         $( face!(@one $symbol $name $answer [] [] [] [] $($args)*); )*
@@ -115,6 +129,10 @@ macro_rules! face {
     (@one $f:ident $name:ident $answer:ty [$($c:tt)*] [$($r:tt)*] [$($p:tt)*] [$($q:tt)*] $x:ident: shared, $($rest:tt)*) => {
         face!(@one $f $name $answer [$($c)* _: *const f32, _: usize,] [$($r)* $x: &[f32],]
             [$($p)* $x.as_ptr(), $x.len(),] [$($q)* shared $x,] $($rest)*);
+    };
+    (@one $f:ident $name:ident $answer:ty [$($c:tt)*] [$($r:tt)*] [$($p:tt)*] [$($q:tt)*] $x:ident: bytes, $($rest:tt)*) => {
+        face!(@one $f $name $answer [$($c)* _: *const u8, _: usize,] [$($r)* $x: &[u8],]
+            [$($p)* $x.as_ptr(), $x.len(),] [$($q)* bytes $x,] $($rest)*);
     };
     (@one $f:ident $name:ident $answer:ty [$($c:tt)*] [$($r:tt)*] [$($p:tt)*] [$($q:tt)*] $x:ident: lent, $($rest:tt)*) => {
         face!(@one $f $name $answer [$($c)* _: *mut f32, _: usize,] [$($r)* $x: &mut [f32],]
@@ -178,6 +196,8 @@ face! {
     hall_buffer_mix as buffer_mix(channels: usize, samples: usize, buffer: shared, other: lent,) -> u32;
     hall_downmix as downmix(channels: usize, samples: usize, buffer: shared, output: lent,) -> u32;
     hall_channel_number as channel_number(channels: usize, samples: usize, channel: usize, length: usize,) -> u32;
+    hall_wave_read as wave_read(file: bytes,) -> Wave;
+    hall_wave_samples as wave_samples(data: bytes, tag: u32, out: lent,) -> ();
 }
 
 /// The powers of a prime near 0, 1, 2, .. in order; 0 for a refusal. Another process is asked for all of them at once.

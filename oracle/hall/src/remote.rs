@@ -1,6 +1,7 @@
 //! The library in another process, which runs under an emulator (player.c). A call's arguments and slices go into
 //! memory that both processes map; a byte on a pipe says that it is the other's turn.
 
+use std::borrow::Cow;
 use std::fs::OpenOptions;
 use std::io::{Read, Write};
 use std::os::fd::AsRawFd;
@@ -96,7 +97,7 @@ pub struct Call<'a> {
     name: &'static str,
     arguments: Vec<u8>,
     floats: usize,
-    shared: Vec<(&'a [f32], usize)>,
+    shared: Vec<(Cow<'a, [f32]>, usize)>,
     lent: Vec<(&'a mut [f32], usize)>,
 }
 
@@ -121,22 +122,29 @@ impl<'a> Call<'a> {
 
     /// Passes a slice that is read.
     pub fn shared(&mut self, floats: &'a [f32]) {
-        let at = self.place(floats.len());
-        self.shared.push((floats, at));
+        let at = self.place(floats.len(), floats.len());
+        self.shared.push((floats.into(), at));
+    }
+
+    /// Passes a slice of bytes that is read. They lie there as floats, the last of which is filled up by a margin.
+    pub fn bytes(&mut self, bytes: &[u8]) {
+        let floats: Vec<f32> = bytes.chunks(4).map(filled_up).collect();
+        let at = self.place(floats.len(), bytes.len());
+        self.shared.push((floats.into(), at));
     }
 
     /// Passes a slice that may be written.
     pub fn lent(&mut self, floats: &'a mut [f32]) {
-        let at = self.place(floats.len());
+        let at = self.place(floats.len(), floats.len());
         self.lent.push((floats, at));
     }
 
-    /// Passes a slice's place, and keeps room for it and its margin.
-    fn place(&mut self, count: usize) -> usize {
+    /// Passes a slice's place and its count, and keeps room for so many floats and a margin.
+    fn place(&mut self, room: usize, count: usize) -> usize {
         let at = self.floats;
         self.value(at);
         self.value(count);
-        self.floats += count + MARGIN.len();
+        self.floats += room + MARGIN.len();
         at
     }
 
@@ -167,7 +175,7 @@ impl<'a> Call<'a> {
     }
 
     fn all(&self) -> impl Iterator<Item = (&[f32], usize)> {
-        let shared = self.shared.iter().map(|(floats, at)| (*floats, *at));
+        let shared = self.shared.iter().map(|(floats, at)| (&**floats, *at));
         shared.chain(self.lent.iter().map(|(floats, at)| (&**floats, *at)))
     }
 
@@ -192,6 +200,13 @@ impl<'a> Call<'a> {
             floats.copy_from_slice(player.floats(*at, floats.len()));
         }
     }
+}
+
+/// A float of four bytes or of fewer.
+fn filled_up(bytes: &[u8]) -> f32 {
+    let mut four = [0xa5; 4];
+    four[..bytes.len()].copy_from_slice(bytes);
+    f32::from_ne_bytes(four)
 }
 
 fn same(a: &[f32], b: &[f32]) -> bool {

@@ -7,6 +7,8 @@ mod powers;
 mod rings;
 mod runs;
 mod several;
+mod take_cases;
+mod takes;
 mod values;
 
 use crate::dice::Dice;
@@ -15,6 +17,8 @@ use crate::sounds::FRAMES;
 
 pub use powers::all_powers;
 pub use several::several_frames;
+pub use take_cases::named_takes;
+pub use takes::damaged_take;
 
 /// The trials take turns over these. Each unit kind meets each class of frames in turn.
 const TURNS: usize = 10;
