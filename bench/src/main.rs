@@ -16,6 +16,8 @@ const TIMES: [f32; 3] = [0.5; 3];
 /// How many frames are handed over together.
 const TOGETHER: usize = 64;
 
+const MEBIBYTE: usize = 1 << 20;
+
 fn main() {
     if !hall::LINKED {
         println!(
@@ -27,6 +29,7 @@ fn main() {
         beside_the_rust(frame);
     }
     at_once_beside_singly();
+    samples_beside_the_rust();
     against_frames();
 }
 
@@ -75,6 +78,53 @@ fn at_once_beside_singly() {
         );
     }
     println!();
+}
+
+/// A mebibyte of a take's samples made floats, beside the loop that one writes in Rust.
+fn samples_beside_the_rust() {
+    let data: Vec<u8> = noise(MEBIBYTE / 4).into_iter().flat_map(f32::to_le_bytes).collect();
+    println!("1 MiB of samples made floats, ns, best and median of rounds");
+    println!("         rounds      hall: best   median   Rust: best   median   hall/Rust: best   median   at most");
+    samples_row("16 bits", "3.00", &data, 1, sixteen_bits);
+    samples_row("float", "none", &data, 3, binary32);
+    println!();
+}
+
+/// One kind of samples. Both ways must give the same floats, or their times say nothing.
+fn samples_row(name: &str, bar: &str, data: &[u8], tag: u32, rust: fn(&[u8], &mut [f32])) {
+    let rounds = 8 * ROUNDS;
+    let count = data.len() / if tag == 1 { 2 } else { 4 };
+    let (mut ours, mut theirs) = (vec![1.0; count], vec![2.0; count]);
+    let (mut our_times, mut their_times) = (Vec::new(), Vec::new());
+    for _ in 0..rounds {
+        let start = Instant::now();
+        hall::wave_samples(black_box(data), tag, black_box(&mut ours));
+        our_times.push(nanoseconds(start, 1));
+        let start = Instant::now();
+        rust(black_box(data), black_box(&mut theirs));
+        their_times.push(nanoseconds(start, 1));
+    }
+    assert!(same(&ours, &theirs), "the floats differ: run the differential first");
+    let ([a, b], [c, d]) = (best_and_median(&mut our_times), best_and_median(&mut their_times));
+    println!(
+        "{name:<8} {rounds:>6} {a:>15.0} {b:>8.0} {c:>12.0} {d:>8.0} {:>17.2} {:>8.2} {bar:>9}",
+        a / c,
+        b / d
+    );
+}
+
+/// The loop in Rust over samples of 16 bits.
+fn sixteen_bits(data: &[u8], out: &mut [f32]) {
+    for (x, b) in out.iter_mut().zip(data.chunks_exact(2)) {
+        *x = f32::from(i16::from_le_bytes([b[0], b[1]])) / 32_768.0;
+    }
+}
+
+/// The loop in Rust over floats.
+fn binary32(data: &[u8], out: &mut [f32]) {
+    for (x, b) in out.iter_mut().zip(data.chunks_exact(4)) {
+        *x = f32::from_le_bytes([b[0], b[1], b[2], b[3]]);
+    }
 }
 
 /// What an apply costs as the frame grows.
