@@ -88,6 +88,31 @@ fn samples_beside_the_rust() {
     samples_row("16 bits", "3.00", &data, 1, sixteen_bits);
     samples_row("float", "none", &data, 3, binary32);
     println!();
+    walk_row("a take of three chunks", &take_behind(1));
+    walk_row("1 MiB of empty chunks", &take_behind((MEBIBYTE - 12 - 24 - 8) / 8));
+    println!();
+}
+
+/// A take of mono 16 bits with no samples, behind so many empty chunks.
+fn take_behind(chunks: usize) -> Vec<u8> {
+    let mut file = b"RIFF\0\0\0\0WAVE".to_vec();
+    file.extend(b"JUNK\0\0\0\0".repeat(chunks));
+    file.extend(b"fmt \x10\0\0\0\x01\0\x01\0\x80\xbb\0\0\0\x77\x01\0\x02\0\x10\0");
+    file.extend(b"data\0\0\0\0");
+    file
+}
+
+/// How long it takes to read a take's headers.
+fn walk_row(name: &str, file: &[u8]) {
+    let mut times = Vec::new();
+    for _ in 0..8 * ROUNDS {
+        let start = Instant::now();
+        let read = hall::wave_read(black_box(file));
+        times.push(nanoseconds(start, 1));
+        assert!(read.number == 0 && read.data == file.len(), "the take isn't read");
+    }
+    let [best, median] = best_and_median(&mut times);
+    println!("{name} read: {best:.0} ns at best, median {median:.0}");
 }
 
 /// One kind of samples. Both ways must give the same floats, or their times say nothing.
