@@ -19,8 +19,8 @@ use Rattle.wave.specs.declared.Reading.the-variants.{Taken}
 use Rattle.wave.specs.Chunks.{begins, riffName, waveName, formatName, dataName, numberAt, sizeOf, formatOf, tagOk, supported, letBy, metAfter}
 use Rattle.wave.specs.Reading.{mostBytes, isWave, reading}
 use Rattle.wave.specs.Promises.{Over, Come, AtData, ReadsAlike}
-use Rattle.wave.proofs.Walking.{supported-has, come-walk, data-walk}
-use Rattle.wave.proofs.Readings.{walk-read, accepted, data-is, stretch-in-file, data-room}
+use Rattle.wave.proofs.Walking.{supported-has}
+use Rattle.wave.proofs.Readings.{walk-decides, accepted, data-is, stretch-in-file, data-room}
 
 -- ---- names and numbers
 
@@ -148,7 +148,6 @@ taken-alike front rest rest′ t far fits e =
     let met = Met (t .format) in
     let h : at + 8 ≤ length front = omega (arith, d .behind) in
     let size = size-there front at h in
-    let long = d .long in
     let wave = wave-front front rest′ (omega (arith, d .behind)) ∙ sym (wave-front front rest (omega (arith, d .behind)))
     ∙ accepted (front ++ rest) t e .1 in
     let come = come-alike front rest rest′ (d .chunks) at met (omega arith) (d .come) in
@@ -158,8 +157,7 @@ taken-alike front rest rest′ t far fits e =
     } in
     let first : t .first ≡ at + 8 = omega (arith, d .behind) in
     let len = sym (size rest′ ∙ sym (size rest) ∙ d .long) in
-    walk-read (front ++ rest′) fits wave ∙ come-walk (front ++ rest′) (d .chunks) at met come
-    ∙ data-walk (front ++ rest′) at t (header, (refl, (first, (len, d .blocks))))
+    walk-decides (front ++ rest′) fits wave (d .chunks) at met (Taken t) come (header, (refl, (first, (len, d .blocks))))
 
 pub reads-alike : ReadsAlike
 reads-alike file other t e fits same =

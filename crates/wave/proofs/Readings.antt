@@ -22,7 +22,7 @@ use Rattle.wave.proofs.Walking.{come-far, Ended, ends, come-walk, ends-
 -- ---- R11.4, R11.8, R11.9
 
 -- what is read of a file that isn't too long and begins as it should is the walk's
-pub walk-read : (file : List ℕ) → length file ≤ mostBytes → isWave file ≡ true → reading file ≡ walk 0 NotYet 12 (drop 12 file)
+walk-read : (file : List ℕ) → length file ≤ mostBytes → isWave file ≡ true → reading file ≡ walk 0 NotYet 12 (drop 12 file)
 unfolding reading
 walk-read file fits wave = λ i. need (le-leb (length file) mostBytes fits i) TooLong (need (wave i) NotWave (walk 0 NotYet 12 (drop 12 file)))
 

@@ -124,7 +124,7 @@ module _ (file : List ℕ) where
   come-walk (suc k) at met (before, m, (c, o)) = come-walk k before m c ∙ over-walk before at m met o
 
   -- and takes the data there
-  pub data-walk : (at : ℕ) (t : Take) → Ends file at (Met (t .format)) (Taken t) → from (Met (t .format)) at ≡ Taken t
+  data-walk : (at : ℕ) (t : Take) → Ends file at (Met (t .format)) (Taken t) → from (Met (t .format)) at ≡ Taken t
   data-walk at t (d, (f, (first, (len, blocks)))) =
       let chunk = drop at file in
       let own = t .format in

@@ -18,7 +18,7 @@ dataRead NotYet at size = NoFormat at
 dataRead (Met f) at size = need (eqb (size % blockOf f) 0) (Unsupported at) (Taken (record { format = f; first = at + 8; len = size }))
 
 -- R11.3, R11.4, R11.9: the walk over the bytes from place `at` on, the first `skip` of which still belong to the chunk before, with the format met
--- so far. It ends at the first `data` or where it can't go on
+-- so far. It ends at the first `data` or where it can't go on; of a chunk that is let by the first byte is this one, and the rest is to skip
 unfoldable pub walk : ℕ → FormatMet → ℕ → List ℕ → Reading
 walk skip met at [] = NoData
 walk (suc skip) met at (b ∷ bytes) = walk skip met (suc at) bytes
