@@ -2,6 +2,7 @@
 //
 // Its contracts cite `specs/`: a stage of an x ring and a y ring over the fours of a row, and such a
 // stage in a lent stretch.
+#![tactic(auto)]
 ghost use Rattle.std.specs.Prelude.{◌≡◌, ◌+◌, ◌≤◌, length, drop};
 ghost use Rattle.samples.specs.Lists.{over};
 ghost use Rattle.delay.specs.Ring.{list_of, four_of};
@@ -12,7 +13,7 @@ use delay::{Cursors, Four, get4, put4};
 use samples::and;
 
 // What four samples leave: the cursors of the two rings, and the four that go on.
-#[derive(Drop)]
+#[derive(Clone, Copy)]
 struct Turned {
     xs: Cursors,
     ys: Cursors,

@@ -1,6 +1,7 @@
 // Buffers of several channels, each one slice, channel after channel: interleaved and back, a single
 // channel handed out, and what a call that is lent one or two of them refuses; and what a count of
 // frames says of the tail.
+#![tactic(auto)]
 ghost use Rattle.std.specs.Prelude.{◌≡◌, [], ◌*◌, length, take, drop};
 ghost use Rattle.samples.specs.Answers.{accept};
 ghost use Rattle.audio_buffer.specs.Verdict.{verdict_of};
@@ -10,7 +11,7 @@ ghost use Rattle.audio_buffer.specs.Layout.{columns, interleaved, deinterleaved}
 use samples::{Answer, Frames, and, is_accepted, need};
 
 // Whether a unit still sounds after its input has ended.
-#[derive(Drop)]
+#[derive(Clone, Copy)]
 pub enum AudioEffectState {
     TailRemaining,
     TailComplete,

@@ -2,6 +2,7 @@
 //
 // Its contracts cite `specs/Times.antt`, the range of a time and the largest of three, and
 // `specs/Tail.antt`, the count of frames.
+#![tactic(auto)]
 ghost use Rattle.std.specs.Prelude.{◌≡◌, ◌≤◌, true, pos};
 ghost use Rattle.samples.specs.Sizes.{highest_rate, shortest_frame, longest_frame};
 ghost use Rattle.bands.specs.Times.{time_ok, times_ok, larger, largest};
@@ -11,7 +12,7 @@ use samples::{Answer, Frames, and, frame_ok, is_accepted, need, rate_ok};
 
 // The reverb time of each band, in seconds.
 #[repr(C)]
-#[derive(Drop)]
+#[derive(Clone, Copy)]
 pub struct Times {
     pub low: f32,
     pub mid: f32,
@@ -19,7 +20,7 @@ pub struct Times {
 }
 
 // An answer with a count of frames: 0 where the call is refused.
-#[derive(Drop)]
+#[derive(Clone, Copy)]
 pub struct Counted {
     pub answer: Answer,
     pub count: Frames,

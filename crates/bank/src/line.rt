@@ -8,7 +8,7 @@ use iir::{Bands, filtered, new_from_coefficients};
 use lanes::{Four, Lanes, lane, pack, step};
 
 // The last samples of a row, and the bands after it.
-#[derive(Drop)]
+#[derive(Clone, Copy)]
 pub struct Last {
     pub b: Bands,
     pub y: Four,

@@ -1,6 +1,7 @@
 // The end of a frame that is done as jobs: closed, or given up.
 //
 // Its contracts cite the machine: how a close and an abandon end.
+#![tactic(auto)]
 mod ends;
 
 ghost use Rattle.std.specs.Prelude.{◌≡◌, []};

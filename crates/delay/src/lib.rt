@@ -2,6 +2,7 @@
 //
 // The ring is lent, and its two cursors go in by value and come back. A call that is given cursors
 // judges both, and one that is refused leaves all memory as it was.
+#![tactic(auto)]
 ghost use Rattle.std.specs.Prelude.{◌≡◌, length};
 ghost use Rattle.delay.specs.Calls.{length_ok, judged_ring_then, judged_count, silent, fresh_answer, fresh_ring, reset_answer, reset_ring};
 ghost use Rattle.delay.specs.Calls.{get_answer, get_out, put_answer, put_ring, get4_answer, put4_answer, put4_ring};
@@ -17,7 +18,7 @@ use samples::{Answer, Samples, and, clear, is_accepted, need};
 
 // Where a ring is read next, and where it is written next.
 #[repr(C)]
-#[derive(Drop)]
+#[derive(Clone, Copy)]
 pub struct Cursors {
     pub read: Samples,
     pub write: Samples,
@@ -25,18 +26,18 @@ pub struct Cursors {
 
 // Four samples by value.
 #[repr(C)]
-#[derive(Drop)]
+#[derive(Clone, Copy)]
 pub struct Four(pub f32, pub f32, pub f32, pub f32);
 
 // What a call answers, with the cursors to go on from.
-#[derive(Drop)]
+#[derive(Clone, Copy)]
 pub struct RingAnswer {
     pub answer: Answer,
     pub cursors: Cursors,
 }
 
 // The same with four samples.
-#[derive(Drop)]
+#[derive(Clone, Copy)]
 pub struct FourAnswer {
     pub answer: Answer,
     pub cursors: Cursors,

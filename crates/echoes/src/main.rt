@@ -1,5 +1,6 @@
 // Examples of frames, through the unit's calls: which frames a fresh unit takes (R9.28), and where the
 // first echoes of a click fall (R9.27).
+#![tactic(auto)]
 use bands::Times;
 use libc::STDOUT_FILENO;
 use unit::{

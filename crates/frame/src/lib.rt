@@ -2,6 +2,7 @@
 // long their rings are.
 //
 // Its contracts cite `specs/`: what the steps ask of the memory lent, and what a frame leaves of it.
+#![tactic(auto)]
 mod steps;
 mod whole;
 
@@ -19,7 +20,7 @@ use unit::{DIVISOR, FACTOR, FILTERS, LINES, PASS_RINGS, Rings, room_ok};
 
 // What a frame came to: whether all of it is finite, its filters, and the cursors of the rings after
 // it.
-#[derive(Drop)]
+#[derive(Clone, Copy)]
 pub struct Stepped {
     pub ok: bool,
     pub filters: [Filter; FILTERS],

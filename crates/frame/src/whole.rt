@@ -19,7 +19,7 @@ use search::all_finite;
 use unit::{FILTERS, Rings, work_places};
 
 // What a frame in the work memory came to: whether all of it is finite, and its filters.
-#[derive(Drop)]
+#[derive(Clone, Copy)]
 pub(crate) struct Judged {
     pub(crate) ok: bool,
     pub(crate) filters: [Filter; FILTERS],

@@ -2,6 +2,7 @@
 //
 // A function here is the call that it stands for, with that call's contract. `specs/` says how an
 // answer looks to C.
+#![tactic(auto)]
 mod answers;
 mod buffers;
 mod delays;
@@ -30,7 +31,7 @@ pub use units::{hall_apply, hall_apply_frames, hall_fresh, hall_reset, hall_tail
 
 // A call of the unit: its number, the first bad sample, whether the tail has frames left, the state.
 #[repr(C)]
-#[derive(Drop)]
+#[derive(Clone, Copy)]
 pub struct HallAnswer {
     pub number: u32,
     pub index: usize,
@@ -40,7 +41,7 @@ pub struct HallAnswer {
 
 // The same of several frames, with how many of them were done.
 #[repr(C)]
-#[derive(Drop)]
+#[derive(Clone, Copy)]
 pub struct HallFramesAnswer {
     pub number: u32,
     pub index: usize,
@@ -51,7 +52,7 @@ pub struct HallFramesAnswer {
 
 // A call of a ring alone.
 #[repr(C)]
-#[derive(Drop)]
+#[derive(Clone, Copy)]
 pub struct HallRingAnswer {
     pub number: u32,
     pub cursors: Cursors,
@@ -59,7 +60,7 @@ pub struct HallRingAnswer {
 
 // The same with four samples.
 #[repr(C)]
-#[derive(Drop)]
+#[derive(Clone, Copy)]
 pub struct HallFourAnswer {
     pub number: u32,
     pub cursors: Cursors,
@@ -68,7 +69,7 @@ pub struct HallFourAnswer {
 
 // A delay value.
 #[repr(C)]
-#[derive(Drop)]
+#[derive(Clone, Copy)]
 pub struct HallValue {
     pub number: u32,
     pub value: u32,
@@ -76,7 +77,7 @@ pub struct HallValue {
 
 // What is read of a take: the number and the place of a refusal, the format, and where the data lies.
 #[repr(C)]
-#[derive(Drop)]
+#[derive(Clone, Copy)]
 pub struct HallWave {
     pub number: u32,
     pub place: usize,

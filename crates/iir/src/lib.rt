@@ -1,6 +1,7 @@
 // The filter of nine numbers: one step, a run over a row, and three bands in one pass.
 //
 // Its contracts cite `specs/`: the step, the runs, and the tests of a filter's nine numbers.
+#![tactic(auto)]
 ghost use Rattle.std.specs.Prelude.{◌≡◌, ◌&&◌};
 ghost use Rattle.iir.specs.Step.{from_coefficients, step};
 ghost use Rattle.iir.specs.Runs.{run_out, run_end, bands_out, bands_end};
@@ -10,7 +11,7 @@ use samples::{and, is_plus_zero};
 
 // Five coefficients, and the last two samples that went in and that came out.
 #[repr(C)]
-#[derive(Drop)]
+#[derive(Clone, Copy)]
 pub struct Filter {
     pub a1: f32,
     pub a2: f32,
@@ -25,7 +26,7 @@ pub struct Filter {
 
 // The filters of a line's three bands.
 #[repr(C)]
-#[derive(Drop)]
+#[derive(Clone, Copy)]
 pub struct Bands {
     pub f0: Filter,
     pub f1: Filter,

@@ -1,6 +1,7 @@
 // The jobs of an open frame: each call takes the state by value and gives it back.
 //
 // Its contracts cite the machine: how each job ends.
+#![tactic(auto)]
 mod steps;
 
 ghost use Rattle.std.specs.Prelude.{◌≡◌, []};

@@ -7,7 +7,7 @@ use crate::lanes::{Lanes, lane, pack, step};
 use iir::Bands;
 
 // The bands of four lines.
-#[derive(Drop)]
+#[derive(Clone, Copy)]
 pub struct FourBands {
     pub b0: Bands,
     pub b1: Bands,
@@ -16,7 +16,7 @@ pub struct FourBands {
 }
 
 // Band 0 of four lines, band 1 and band 2.
-#[derive(Drop)]
+#[derive(Clone, Copy)]
 pub struct BandLanes {
     pub l0: Lanes,
     pub l1: Lanes,

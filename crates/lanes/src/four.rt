@@ -4,7 +4,7 @@ ghost use Rattle.samples.specs.Binary32.{◌⊕◌, ◌⊖◌, ◌⊗◌};
 ghost use Rattle.lanes.specs.Four.{beside, at, lanewise};
 
 // A number of each of four lines.
-#[derive(Drop)]
+#[derive(Clone, Copy)]
 pub struct Four {
     pub v0: f32,
     pub v1: f32,

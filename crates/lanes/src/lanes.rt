@@ -6,7 +6,7 @@ use crate::four::{Four, add, at, beside, mul, sub};
 use iir::Filter;
 
 // Each of a filter's nine numbers, of four lines.
-#[derive(Drop)]
+#[derive(Clone, Copy)]
 pub struct Lanes {
     pub a1: Four,
     pub a2: Four,

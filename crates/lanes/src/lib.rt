@@ -2,6 +2,7 @@
 // step of the four is one step on vectors of four.
 //
 // Its contracts cite `specs/`: four filters side by side, their step, and three bands of such.
+#![tactic(auto)]
 mod band_lanes;
 mod four;
 mod lanes;

@@ -1,6 +1,7 @@
 // A frame opened, to be done as jobs.
 //
 // Its contracts cite the machine: how an open ends.
+#![tactic(auto)]
 mod begin;
 
 ghost use Rattle.std.specs.Prelude.{◌≡◌};

@@ -1,5 +1,6 @@
 // One frame done as jobs in three orders, with requests among them that are refused, beside the whole
 // call on the same unit.
+#![tactic(auto)]
 use bands::Times;
 use iir::Filter;
 use jobs::{job_line, job_mix, job_output, job_read};
@@ -24,7 +25,7 @@ const WORK: usize = ROWS * FRAME + ALLPASS_FLOATS;
 const B0: usize = 2;
 
 // A unit on the way, and whether each request so far was answered as it should be.
-#[derive(Drop)]
+#[derive(Clone, Copy)]
 struct Going {
     state: State,
     ok: bool,

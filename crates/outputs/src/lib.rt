@@ -2,6 +2,7 @@
 // tone's filters.
 //
 // Its contracts cite `specs/`: what step 5 leaves of the memory lent and of the filters.
+#![tactic(auto)]
 mod passes;
 mod sums;
 

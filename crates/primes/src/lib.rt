@@ -3,6 +3,7 @@
 //
 // Its contracts cite `specs/`: the two tables (Table), the nearest power (Power) and the delay values
 // with the answers of their calls (Values).
+#![tactic(auto)]
 ghost use Rattle.std.specs.Prelude.{◌≡◌, ◌<◌, ◌≤◌, true, length};
 ghost use Rattle.samples.specs.Answers.{accept};
 ghost use Rattle.samples.specs.Sizes.{highest_rate};
@@ -30,7 +31,7 @@ const SUM_OF_TIME: f32 = 0.15;
 const SUM_PARTS: f32 = 16.0;
 
 // An answer with a value: 0 where the call is refused.
-#[derive(Drop)]
+#[derive(Clone, Copy)]
 pub struct Value {
     pub answer: Answer,
     pub value: u32,

@@ -1,5 +1,6 @@
 // Plays a recorded sample of the published Rust's answers again and compares every bit. It stops at the
 // first difference and says where. README.md has the layout of the records.
+#![tactic(auto)]
 mod kept;
 mod tape;
 mod units;

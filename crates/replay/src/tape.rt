@@ -20,7 +20,7 @@ pub(crate) const KEPT: u32 = 6;
 
 // Where the replay is: how many records have begun and how many numbers of theirs were compared,
 // whether all were equal, whether there is a record to play, and that record's kind and numbers.
-#[derive(Drop)]
+#[derive(Clone, Copy)]
 pub(crate) struct Tape {
     pub(crate) records: u64,
     pub(crate) numbers: u64,

@@ -7,7 +7,7 @@ use samples::Frames;
 use unit::{ALLPASS_FLOATS, COEFFICIENTS, DELAYS_AND_RINGS, LINES, Outcome, ROWS, State};
 
 // A unit on its way, and where the replay is.
-#[derive(Drop)]
+#[derive(Clone, Copy)]
 struct Going {
     state: State,
     tape: Tape,

@@ -2,6 +2,7 @@
 // several applies at once, and tail. Each takes the state by value and gives it back.
 //
 // Their contracts cite the machine: how each call ends.
+#![tactic(auto)]
 mod filters;
 mod several;
 mod units;

@@ -23,7 +23,7 @@ use unit::{
 };
 
 // What a frame among several came to: its answer, and what the unit keeps then.
-#[derive(Drop)]
+#[derive(Clone, Copy)]
 pub(crate) struct Next {
     pub(crate) answer: Answer,
     pub(crate) frame: Stepped,

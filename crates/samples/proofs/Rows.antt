@@ -22,6 +22,7 @@ row_ends i n f h = omega (arith, suc-mul i f, mul-le-mul_right f h)
 
 module _ {A : Type 0} (f : ℕ) where
   pub row_long : (n i : ℕ) (rows : List A) → i < n → n * f ≤ length rows → length (row f i rows) ≡ f
+  row_long zero i rows h e = elim h [ ]
   row_long (suc n) zero rows h e = simp length-take (omega (arith, suc-mul n f))
   row_long (suc n) (suc i) rows h e = row_long n i (drop f rows) (omega arith) (simp length-drop (omega (arith, suc-mul n f)))
 

@@ -3,6 +3,8 @@
 //
 // Its contracts cite `specs/`: the binary32 words, the answers with their numbers, the ranges of
 // rate and frame, and the combinators by which every other crate says what a call leaves.
+#![tactic(auto)]
+
 ghost use Rattle.std.specs.Prelude.{◌≡◌, ◌&&◌, length, replicate};
 ghost use Rattle.samples.specs.Binary32.{+0, finite, plus_zero};
 ghost use Rattle.samples.specs.Answers.{number_of, index_of, accepted, need};
@@ -10,16 +12,16 @@ ghost use Rattle.samples.specs.Sizes.{rate_ok, frame_ok};
 
 // A position in a ring, or a distance, counted in samples (R1.6).
 #[repr(C)]
-#[derive(Drop)]
+#[derive(Clone, Copy)]
 pub struct Samples(pub usize);
 
 // A length of time counted in frames (R1.6, R1.7).
 #[repr(C)]
-#[derive(Drop)]
+#[derive(Clone, Copy)]
 pub struct Frames(pub i32);
 
 // What a call answers. `number_of` gives each case its number (R2.10 to R2.19).
-#[derive(Drop)]
+#[derive(Clone, Copy)]
 pub enum Answer {
     Accepted,
     BadState,

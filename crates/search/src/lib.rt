@@ -1,13 +1,14 @@
 // The search for a sample that isn't finite.
 //
 // Its contracts cite `specs/`: the first such sample, and that there is none.
+#![tactic(auto)]
 ghost use Rattle.std.specs.Prelude.{◌≡◌, ◌<◌, ◌≤◌};
 ghost use Rattle.search.specs.Search.{first_bad, nothing, all_finite};
 
 use samples::is_finite;
 
 // Where a search found what it looks for.
-#[derive(Drop)]
+#[derive(Clone, Copy)]
 pub enum Found {
     At(usize),
     Nothing,

@@ -120,7 +120,7 @@ fn ring_start(i: usize, ls: [usize; LINES]) -> usize
 
 // Where the parts of a work memory begin that come after the input: the rows read, the rows mixed, the
 // output and the allpass rings (R1.22).
-#[derive(Drop)]
+#[derive(Clone, Copy)]
 pub struct Places {
     pub reads: usize,
     pub mixed: usize,

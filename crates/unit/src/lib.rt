@@ -1,6 +1,7 @@
 // The unit's state by value, when it is in range, and the sizes of the memory that it is lent.
 //
 // Its contracts cite `specs/`, over any model of the unit: the code here is the wall unit's.
+#![tactic(auto)]
 mod layout;
 mod range;
 mod room;
@@ -29,7 +30,7 @@ pub use sizes::{is_store, store_ok, work_ok};
 // All that the unit keeps beside its store (R1.26). `busy` says that a frame is open; `tail`, `marks`,
 // `next` and `before` are held for that frame alone.
 #[repr(C)]
-#[derive(Drop)]
+#[derive(Clone, Copy)]
 pub struct State {
     pub rate: u32,
     pub frame: usize,
@@ -45,21 +46,21 @@ pub struct State {
 }
 
 // The rings of the lines.
-#[derive(Drop)]
+#[derive(Clone, Copy)]
 pub struct LineRings {
     pub lengths: [usize; LINES],
     pub cursors: [Cursors; LINES],
 }
 
 // The allpass rings.
-#[derive(Drop)]
+#[derive(Clone, Copy)]
 pub struct AllpassRings {
     pub lengths: [usize; PASS_RINGS],
     pub cursors: [Cursors; PASS_RINGS],
 }
 
 // The rings of a unit.
-#[derive(Drop)]
+#[derive(Clone, Copy)]
 pub struct Rings {
     pub lines: LineRings,
     pub passes: AllpassRings,
@@ -90,7 +91,7 @@ pub fn fresh_state(rate: u32, frame: usize) -> State
 }
 
 // What a call of the unit gives back: its answer, the verdict on the tail, and the state.
-#[derive(Drop)]
+#[derive(Clone, Copy)]
 pub struct Outcome {
     pub answer: Answer,
     pub verdict: AudioEffectState,
@@ -98,7 +99,7 @@ pub struct Outcome {
 }
 
 // What several frames at once give back: the outcome of a call, and how many frames were done.
-#[derive(Drop)]
+#[derive(Clone, Copy)]
 pub struct FramesOutcome {
     pub outcome: Outcome,
     pub done: Frames,

@@ -3,6 +3,7 @@
 //
 // What lies between a read and a write is `shell`'s, with a contract. No contract can say which
 // bytes are read or written.
+#![tactic(auto)]
 ghost use Rattle.std.specs.Prelude.{◌≤◌, length};
 
 use libc::{STDIN_FILENO, STDOUT_FILENO};
@@ -10,7 +11,7 @@ use shell::{BYTES, STORE, WORK};
 use unit::State;
 
 // Where a turn leaves the unit, whether what it made was written, and whether it was the last.
-#[derive(Drop)]
+#[derive(Clone, Copy)]
 struct Went {
     state: State,
     written: bool,

@@ -3,6 +3,7 @@
 // `read` walks from chunk to chunk to the data, `data` hands that out as the caller's own stretch,
 // and `floats` makes samples of it. The contracts cite `specs/`: chunks and format, the walk and
 // what is read, the floats of bytes.
+#![tactic(auto)]
 mod chunks;
 mod pcm;
 mod walks;
@@ -17,7 +18,7 @@ use walks::walk;
 
 // What a `fmt ` chunk says of the samples (R11.5).
 #[repr(C)]
-#[derive(Drop)]
+#[derive(Clone, Copy)]
 pub struct WaveFormat {
     pub rate: u32,
     pub channels: u32,
@@ -26,7 +27,7 @@ pub struct WaveFormat {
 
 // A take: its format, and where its data lies in the file (R11.11).
 #[repr(C)]
-#[derive(Drop)]
+#[derive(Clone, Copy)]
 pub struct Take {
     pub format: WaveFormat,
     pub first: usize,
@@ -35,7 +36,7 @@ pub struct Take {
 
 // What is read of a file: a take, or why there is none and at which chunk. `read_number` gives each
 // case its number (R11.8).
-#[derive(Drop)]
+#[derive(Clone, Copy)]
 pub enum Reading {
     Taken(Take),
     TooLong,
@@ -47,7 +48,7 @@ pub enum Reading {
 }
 
 // The format that a walk has met so far.
-#[derive(Drop)]
+#[derive(Clone, Copy)]
 pub enum FormatMet {
     NotYet,
     Met(WaveFormat),

@@ -3,8 +3,7 @@ use mathlib.Core.Path.{◌≡◌, refl, sym, ◌∙◌}
 use mathlib.Core.Bool.{true, false}
 use lib.Ieee.{Float, nan, inf, fin, lt, neg, div, of_bits}
 use Rattle.samples.specs.Binary32.{finite}
-use Rattle.samples.proofs.is_finite.Statement.{statement}
-use Rattle.samples.proofs.is_finite.Tie as tie
+use Rattle.samples.proofs.is_finite.Goals as goal
 
 below : (x : Float) → lt x (inf false) ≡ true → lt (inf true) x ≡ finite x
 unfolding lt finite
@@ -19,13 +18,10 @@ not-below nan h = refl
 not-below (inf s) h = refl
 not-below (fin s m e) h = sym h
 
-returns : tie.Need-returns
+pub returns-then-x-top : goal.returns-then-x-top
 unfolding div of_bits neg
-returns c = below c.before.args.x c.if1.true
+returns-then-x-top c = below c.args.x c.if-x-top.true
 
-returns-2 : tie.Need-returns-2
+pub returns-else-x-top : goal.returns-else-x-top
 unfolding div of_bits neg
-returns-2 c = c.if1.false ∙ not-below c.before.args.x c.if1.false
-
-pub is-finite-spec : {M : Type 1} → statement M
-is-finite-spec = tie.close (tie.spec returns returns-2)
+returns-else-x-top c = c.if-x-top.false ∙ not-below c.args.x c.if-x-top.false

@@ -10,8 +10,7 @@ use lib.Ieee.Fits.{up_pos}
 use borrow.Author.Tests.{eqb-true}
 use Rattle.samples.specs.Binary32.{plus_zero}
 use Rattle.samples.proofs.Laws.{split_and}
-use Rattle.samples.proofs.is_plus_zero.Statement.{statement}
-use Rattle.samples.proofs.is_plus_zero.Tie as tie
+use Rattle.samples.proofs.is_plus_zero.Goals as goal
 
 abbrev zero32 : Float
 zero32 = fin false 0 (pos 0)
@@ -52,13 +51,10 @@ when_not (fin false zero (pos zero)) h = sym h
 when_not (fin false zero (pos (suc k))) h = refl
 when_not (fin false zero (negsuc k)) h = refl
 
-returns : tie.Need-returns
+pub returns-then-x : goal.returns-then-x
 unfolding of_bits
-returns c = when-zero c.before.args.x c.before.well-formed.0.1 c.if1.true
+returns-then-x c = when-zero c.args.x c.well_formed.0.1 c.if-x.true
 
-returns-2 : tie.Need-returns-2
+pub returns-else-x : goal.returns-else-x
 unfolding of_bits
-returns-2 c = when_not c.before.args.x c.if1.false
-
-pub is-plus-zero-spec : {M : Type 1} → statement M
-is-plus-zero-spec = tie.close (tie.spec returns returns-2)
+returns-else-x c = when_not c.args.x c.if-x.false
