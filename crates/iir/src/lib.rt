@@ -2,6 +2,7 @@
 //
 // Its contracts cite `specs/`: the step, the runs, and the tests of a filter's nine numbers.
 #![tactic(auto)]
+
 ghost use Rattle.std.specs.Prelude.{◌≡◌, ◌&&◌};
 ghost use Rattle.iir.specs.Step.{from_coefficients, step};
 ghost use Rattle.iir.specs.Runs.{run_out, run_end, bands_out, bands_end};
