@@ -3,7 +3,7 @@
 use native.Mathlib.Omega.{arith}
 use mathlib.Core.Path.{◌≡◌, refl, sym, ap, ◌∙◌}
 use mathlib.Core.Logic.{⊎_elim}
-use mathlib.Core.List.{List, [], ◌++◌, append-nil, append_assoc}
+use mathlib.Core.List.{List, ◌++◌, append-nil, append_assoc}
 use Prim.Native.Nat.{ℕ, ◌+◌, ◌-◌, ◌≤◌, ◌<◌, min}
 use native.Mathlib.Nat.{zero-add, add-zero}
 use lib.Ieee.{Float, nan}
@@ -11,7 +11,7 @@ use lib.ListN.{length, get_or, take, drop, set, length-set, length-append, lengt
 use lib.Seq.{paste, paste-zero, length-paste, take_all, take_at, take-length, take-append-le, drop-append-le, take-append-add, drop-append-add, take-take, drop-drop, length-take-le, get_or-take, get_or-drop}
 use Rattle.samples.proofs.Turns.{lt_or_ge}
 use Rattle.delay.specs.declared.Four.{Four}
-use Rattle.delay.specs.Ring.{rotl, wrap, read, write, read_each, write_each, list_of, four_of}
+use Rattle.delay.specs.Ring.{rotl, read, write, read_each, write_each, list_of, four_of}
 use Rattle.delay.proofs.Views.{wrap_lo, rotl_at, read_each_lem}
 
 -- a list filled in two parts

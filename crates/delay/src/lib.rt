@@ -3,6 +3,7 @@
 // The ring is lent, and its two cursors go in by value and come back. A call that is given cursors
 // judges both, and one that is refused leaves all memory as it was.
 #![tactic(auto)]
+
 ghost use Rattle.std.specs.Prelude.{◌≡◌, length};
 ghost use Rattle.delay.specs.Calls.{length_ok, judged_ring_then, judged_count, silent, fresh_answer, fresh_ring, reset_answer, reset_ring};
 ghost use Rattle.delay.specs.Calls.{get_answer, get_out, put_answer, put_ring, get4_answer, put4_answer, put4_ring};
