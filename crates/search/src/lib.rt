@@ -2,6 +2,7 @@
 //
 // Its contracts cite `specs/`: the first such sample, and that there is none.
 #![tactic(auto)]
+
 ghost use Rattle.std.specs.Prelude.{◌≡◌, ◌<◌, ◌≤◌};
 ghost use Rattle.search.specs.Search.{first_bad, nothing, all_finite};
 
