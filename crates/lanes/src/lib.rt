@@ -3,6 +3,7 @@
 //
 // Its contracts cite `specs/`: four filters side by side, their step, and three bands of such.
 #![tactic(auto)]
+
 mod band_lanes;
 mod four;
 mod lanes;
