@@ -3,6 +3,7 @@
 // Its contracts cite `specs/`: the mix of one sample of n lines. What it makes of n rows stands there
 // too.
 #![tactic(auto)]
+
 ghost use Rattle.std.specs.Prelude.{◌≡◌, ◌<◌, length};
 ghost use Rattle.samples.specs.Answers.{accept};
 ghost use Rattle.hadamard.specs.Mix.{minus, plus_minus, mix_at, mixed, quarter, width, judged_sample};
