@@ -3,6 +3,7 @@
 // Its contracts cite `specs/`: a stage of an x ring and a y ring over the fours of a row, and such a
 // stage in a lent stretch.
 #![tactic(auto)]
+
 ghost use Rattle.std.specs.Prelude.{◌≡◌, ◌+◌, ◌≤◌, length, drop};
 ghost use Rattle.samples.specs.Lists.{over};
 ghost use Rattle.delay.specs.Ring.{list_of, four_of};

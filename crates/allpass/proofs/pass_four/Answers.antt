@@ -1,5 +1,4 @@
 -- `allpass::pass_four` meets its contract: one four of `passed`. Assumes nothing.
-use borrow.Author.Rules.{rules}
 use Prim.Native.Nat.{ℕ, ◌+◌, ◌-◌, ◌≤◌}
 use mathlib.Core.Path.{◌≡◌, ◌∙◌}
 use mathlib.Core.List.{List}
@@ -15,19 +14,18 @@ use Rattle.allpass.specs.Passes.{Stage, stage_end, pass_out, pass_end}
 use Rattle.allpass.specs.Stages.{stage_of, both_rings, stage_in, passed, turned}
 use Rattle.allpass.specs.declared.Turned.{Turned}
 use Rattle.allpass.proofs.Stages.{length_rings}
-use Rattle.allpass.proofs.pass_four.Statement.{statement}
-use Rattle.allpass.proofs.pass_four.Tie as tie
+use Rattle.allpass.proofs.pass_four.Goals as goal
 
 module _ (t at lx ly : ℕ) (cx cy : Cursors) (w : List Float) (fits : at + (lx + ly) ≤ length w) where
   abbrev lent_rings : List Float
   lent_rings = mid_of at (at + (lx + ly) - at) w
 
-  four-done : {x : Four} {r : Turned} {z w' : List Float}
+  four_done : {x : Four} {r : Turned} {z w' : List Float}
       → x ≡ four_of (drop t w) → r ≡ turned (stage_of lx cx cy lent_rings) x → z ≡ both_rings (stage_end (stage_of lx cx cy lent_rings) x)
       → w' ≡ over t (list_of r.y) (put_mid at (at + (lx + ly) - at) w z)
       → (r ≡ turned (stage_in at lx ly cx cy w) (four_of (drop t w))) × (w' ≡ passed 1 t at lx ly cx cy w)
   unfolding over passed pass_out pass_end
-  four-done {x} {r} {z} ex er ez ew =
+  four_done {x} {r} {z} ex er ez ew =
       let s : Stage = stage_in at lx ly cx cy w in
       let e : Stage = pass_end 1 s (drop t w) in
       let rings = lent at (lx + ly) w in
@@ -37,28 +35,10 @@ module _ (t at lx ly : ℕ) (cx cy : Cursors) (w : List Float) (fits : at + (lx 
       let inner : put_mid at (at + (lx + ly) - at) w z ≡ over at (both_rings e) w = back at (lx + ly) w z ∙ rw (z', le) in
       (r', ew ∙ (λ i. over t (list_of (r' i).y) (inner i)))
 
-returns : tie.Need-returns
+pub returns : goal.returns
 returns c =
-    let store = c.before.before in
-    let turn = store.before.before.before.before.before in
-    let read = turn.before.before in
-    let start = read.before.before.before in
-    let a = start.args in
-    four-done a.t a.at a.lx a.ly a.cx a.cy a.w.now start.requires.1
-    read.read-four.ensures turn.turn.ensures.0 turn.turn.ensures.1 store.store-four.ensures
-
-pub pass-four-spec : {M : Type 1} → statement M
-pass-four-spec =
-    tie.close
-    (tie.spec
-    (λ c. search rules)
-    (λ c. search rules)
-    (λ c κs. search rules)
-    (λ c. search rules)
-    (λ c. search rules)
-    (λ c. search rules)
-    (λ c. search rules)
-    (λ c κs. search rules)
-    (λ c κs. search rules)
-    (λ c. search rules)
-    returns)
+    let a = c.args in
+    let ends =
+    four_done a.t a.at a.lx a.ly a.cx a.cy a.w.now c.requires.1
+    c.read_four-x.ensures c.turn-r.ensures.value c.turn-r.ensures.rings_after c.store_four.ensures in
+    record { value = ends.0; w_after = ends.1 }
