@@ -37,8 +37,8 @@ module _ (n : ℕ) (b : Lanes) (xs₀ : List Float) (i : ℕ) (l : Lanes) (xs : 
       let end = ap (ends l) left ∙ behind-ends l x (drop (i + 1 + 4) (set xs i w)) in
       rw e (v.0, omega arith, length-set xs i w ∙ v.2, stored xs i nan (omega (arith, v.0, v.2)) w out ∙ v.3, sym end ∙ v.4)
 
-  pub all_put_lem : n ≤ i → (ends l [] ≡ ends b (drop 4 xs₀)) × (length xs ≡ length xs₀) × (take (length xs₀ - 4) xs ++ outs l [] ≡ outs b (drop 4 xs₀))
-  all_put_lem h =
+  pub all_put : n ≤ i → (ends l [] ≡ ends b (drop 4 xs₀)) × (length xs ≡ length xs₀) × (take (length xs₀ - 4) xs ++ outs l [] ≡ outs b (drop 4 xs₀))
+  all_put h =
       let none = drop_of_length-le xs {i = i + 4} (omega (arith, v.0, v.2)) in
       let at : length xs₀ - 4 ≡ i = omega (arith, v.0, v.1) in
       (rw none at v.4, v.2, rw at (rw none at v.3))
@@ -49,12 +49,12 @@ module _ (n : ℕ) (b : Lanes) (xs₀ : List Float) (i : ℕ) (l : Lanes) (xs : 
 abbrev pub firsts : List Float → Four
 firsts xs = beside (get_or xs 0 nan) (get_or xs 1 nan) (get_or xs 2 nan) (get_or xs 3 nan)
 
-first_four_lem : (xs : List Float) → 4 ≤ length xs → xs ≡ in_turn (firsts xs) ++ drop 4 xs
-first_four_lem [] h = absurd (omega arith)
-first_four_lem (x ∷ []) h = absurd (omega arith)
-first_four_lem (x ∷ y ∷ []) h = absurd (omega arith)
-first_four_lem (x ∷ y ∷ z ∷ []) h = absurd (omega arith)
-first_four_lem (x ∷ y ∷ z ∷ w ∷ xs) h = refl
+firsts_and_rest : (xs : List Float) → 4 ≤ length xs → xs ≡ in_turn (firsts xs) ++ drop 4 xs
+firsts_and_rest [] h = absurd (omega arith)
+firsts_and_rest (x ∷ []) h = absurd (omega arith)
+firsts_and_rest (x ∷ y ∷ []) h = absurd (omega arith)
+firsts_and_rest (x ∷ y ∷ z ∷ []) h = absurd (omega arith)
+firsts_and_rest (x ∷ y ∷ z ∷ w ∷ xs) h = refl
 
 pub last-four : (at : ℕ) (y : Four) (xs : List Float) → at + 4 ≡ length xs
     → set (set (set (set xs at y.v0) (at + 1) y.v1) (at + 2) y.v2) (at + 3) y.v3 ≡ take at xs ++ in_turn y
@@ -70,7 +70,7 @@ pub line_done : (b : Bands) (xs₀ xs last : List Float) (l : Lanes) (r : Last) 
     × (take (length xs₀ - 4) xs ++ outs l [] ≡ outs (first_four b (firsts xs₀)) (drop 4 xs₀))
     → r ≡ last_four l → last ≡ take (length xs - 4) xs ++ in_turn r.y → (r.b ≡ bands_end b xs₀) × (last ≡ bands_out b xs₀)
 line_done b xs₀ xs last l r h v er el =
-    let whole = first_four_lem xs₀ h in
+    let whole = firsts_and_rest xs₀ h in
     rw er (
       sym (ended-ends l) ∙ v.0 ∙ sym (ap (bands_end b) whole ∙ begun-ends b (firsts xs₀) (drop 4 xs₀)),
       rw (er, v.1, ← ended-outs l) at el ∙ v.2 ∙ sym (ap (bands_out b) whole ∙ begun-outs b (firsts xs₀) (drop 4 xs₀)),

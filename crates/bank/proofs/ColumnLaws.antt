@@ -38,6 +38,7 @@ module _ (f : ℕ) where
 
     row-all : (ys : List Float) (k : ℕ) (rows : List Float) → k < length ys
         → row f k (put_all f t ys rows) ≡ set (row f k rows) t (get_or ys k nan)
+    row-all [] k rows g = absurd (omega arith)
     row-all (y ∷ ys) zero rows g = take_below t ys (set rows t y) ∙ take-set-lt f rows t y h
     row-all (y ∷ ys) (suc k) rows g =
         ap (row f k) (after_first y ys rows) ∙ row-all ys k (drop f rows) (omega arith)

@@ -34,7 +34,7 @@ module _ (f : ℕ) where
   unfolding lines_out
   lines_made zero b rows rows₀ h e = rw zero-mul at e
   lines_made (suc n) b rows rows₀ h e =
-      let d : drop (n * f) (drop f rows) ≡ drop (n * f) (drop f rows₀) = rw (drop-drop, drop-drop, ← next_row n f) e in
+      let d : drop (n * f) (drop f rows) ≡ drop (n * f) (drop f rows₀) = rw (drop-drop (n * f) f rows, drop-drop (n * f) f rows₀, ← next_row n f) e in
       let rest = lines_made n (λ k. b (suc k)) (drop f rows) (drop f rows₀) (λ k g. h (suc k) (omega arith)) d in
       sym (take-append-drop f rows) ∙ rw (h 0 (omega arith), rest) refl
 

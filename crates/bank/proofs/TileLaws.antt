@@ -23,6 +23,7 @@ first_column : (k : ℕ) → 4 * 0 + k ≡ k
 first_column k = omega arith
 
 strand_at : (k m j : ℕ) (tile : List Float) → j < m → get_or (strand k m tile) j nan ≡ get_or tile (4 * j + k) nan
+strand_at k zero j tile h = absurd (omega arith)
 strand_at k (suc m) zero tile h = rw first_column refl
 strand_at k (suc m) (suc j) tile h =
     strand_at k m j (drop 4 tile) (omega arith) ∙ get_or-drop 4 tile (4 * j + k) nan ∙ ap (λ (p : ℕ). get_or tile p nan) (sym (next-column j k))
@@ -31,6 +32,7 @@ strand_at k (suc m) (suc j) tile h =
 module _ (k i : ℕ) (v : Float) (hk : k < 4) (hi : i < 4) where
   -- of line k itself
   set_own : (m j : ℕ) (tile : List Float) → k ≡ i → j < m → 4 * m ≤ length tile → strand k m (set tile (4 * j + i) v) ≡ set (strand k m tile) j v
+  set_own zero j tile e h l = absurd (omega arith)
   set_own (suc m) zero tile e h l =
       rw (first_column i, ← e, get_or-set_same tile k v nan (omega arith), drop-set-lt 4 tile k v hk) refl
   set_own (suc m) (suc j) tile e h l =

@@ -5,6 +5,7 @@
 // Its contracts cite the runs of `iir` and, of rows that lie one after the other, `specs/Lines`; those
 // of its private functions cite the rest of `specs/`.
 #![tactic(auto)]
+
 mod line;
 mod tile;
 
