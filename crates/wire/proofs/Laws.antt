@@ -1,7 +1,7 @@
 -- Bytes and the numbers and floats that they stand for: lengths, one more float, and what decoding gives of what encoding gave. Assumes nothing.
 use mathlib.Core.Path.{◌≡◌, refl, ap, ◌∙◌}
 use mathlib.Core.List.{List, [], ◌∷◌, ◌++◌, append-nil, append_assoc}
-use Prim.Native.Nat.{ℕ, zero, suc, ◌+◌, ◌-◌, ◌*◌, ◌/◌, ◌≤◌, ◌<◌, min}
+use Prim.Native.Nat.{ℕ, zero, suc, ◌+◌, ◌*◌, ◌/◌, ◌≤◌, ◌<◌, min}
 use native.Mathlib.Nat.{add_assoc}
 use native.Mathlib.Numerals.{add-one}
 use native.Mathlib.Omega.{arith}
@@ -12,15 +12,15 @@ use lib.Ieee.{Float, nan, binary32, fits, of_bits, to_bits}
 use lib.Ieee.Bits.{of_bits-to_bits, to_bits-lt}
 use Rattle.samples.specs.Binary32.{+0}
 use Rattle.samples.specs.Lists.{over}
-use Rattle.samples.proofs.Turns.{more, next}
+use Rattle.samples.proofs.Turns.{next}
 use Rattle.wire.proofs.Unpacking.{first_whole}
 use Rattle.wire.specs.Wire.{value_of, bytes_of, decoded, encoded, DecodedEncoded, written}
 
 -- ---- four bytes
 
-four-read : (bytes : List ℕ) (at : ℕ) → at + 4 ≤ length bytes
+four_read : (bytes : List ℕ) (at : ℕ) → at + 4 ≤ length bytes
     → take 4 (drop at bytes) ≡ get_or bytes at 0 ∷ get_or bytes (at + 1) 0 ∷ get_or bytes (at + 2) 0 ∷ get_or bytes (at + 3) 0 ∷ []
-four-read bytes at h =
+four_read bytes at h =
     let one = next bytes at 0 (omega arith) in
     let two = next bytes (at + 1) 0 (omega arith) in
     let three = next bytes (at + 2) 0 (omega arith) in
@@ -39,7 +39,7 @@ four_stored out at a b c d h =
 -- the number of four bytes
 pub four_at_lem : (bytes : List ℕ) (at : ℕ) → at + 4 ≤ length bytes
     → value_of (take 4 (drop at bytes)) ≡ value_of (get_or bytes at 0 ∷ get_or bytes (at + 1) 0 ∷ get_or bytes (at + 2) 0 ∷ get_or bytes (at + 3) 0 ∷ [])
-four_at_lem bytes at h = ap value_of (four-read bytes at h)
+four_at_lem bytes at h = ap value_of (four_read bytes at h)
 
 -- ---- encoding
 
