@@ -2,6 +2,7 @@
 // channel handed out, and what a call that is lent one or two of them refuses; and what a count of
 // frames says of the tail.
 #![tactic(auto)]
+
 ghost use Rattle.std.specs.Prelude.{◌≡◌, [], ◌*◌, length, take, drop};
 ghost use Rattle.samples.specs.Answers.{accept};
 ghost use Rattle.audio_buffer.specs.Verdict.{verdict_of};

@@ -3,6 +3,7 @@
 // Its contracts cite `specs/Times.antt`, the range of a time and the largest of three, and
 // `specs/Tail.antt`, the count of frames.
 #![tactic(auto)]
+
 ghost use Rattle.std.specs.Prelude.{◌≡◌, ◌≤◌, true, pos};
 ghost use Rattle.samples.specs.Sizes.{highest_rate, shortest_frame, longest_frame};
 ghost use Rattle.bands.specs.Times.{time_ok, times_ok, larger, largest};

@@ -4,6 +4,7 @@
 // Its contracts cite `specs/`: the two tables (Table), the nearest power (Power) and the delay values
 // with the answers of their calls (Values).
 #![tactic(auto)]
+
 ghost use Rattle.std.specs.Prelude.{◌≡◌, ◌<◌, ◌≤◌, true, length};
 ghost use Rattle.samples.specs.Answers.{accept};
 ghost use Rattle.samples.specs.Sizes.{highest_rate};
