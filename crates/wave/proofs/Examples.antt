@@ -23,8 +23,8 @@ too_long_lem file h =
     λ i. need (lt-leb (length file) most_bytes h i) TooLong rest
 
 -- 12 bytes, a whole format, and a header
-no-smaller : (file : List ℕ) (t : Take) → reading file ≡ Taken t → 44 ≤ length file
-no-smaller file t e =
+none_smaller : (file : List ℕ) (t : Take) → reading file ≡ Taken t → 44 ≤ length file
+none_smaller file t e =
     let f = format_before file t e in
     omega (arith, come_far file f.chunks f.at NotYet f.come, (supported_has _ f.right).room, f.before, data_room file t e)
 
@@ -49,7 +49,7 @@ pub take_examples : TakeExamples
 unfolding complete format_of supported walk reading
 take_examples = record {
   smallest = (refl, smallest_read);
-  no_smaller = no-smaller;
+  no_smaller = none_smaller;
   too_long = (zeros-length 1048533 smallest_file, zeros_too_long 1048533 smallest_file (omega arith));
   too_long_bare = (zeros-length 1048577 [], zeros_too_long 1048577 [] (omega arith));
   longest = (zeros-length 1048532 smallest_file, zeros_alike 1048532 (omega arith));

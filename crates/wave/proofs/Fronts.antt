@@ -112,7 +112,7 @@ module _ (front rest rest' : List ℕ) where
       let let_by_lem : (r : List ℕ) → let_by met (drop at (front ++ r)) ≡ let_by met chunk
       = λ r. ap (let_by met) (there front at h r) ∙ let_by_front chunk r long w met in
       let right = sym (let_by_lem rest) ∙ o.right in
-      let met-there : (r : List ℕ) → met_after met (drop at (front ++ r)) ≡ met_after met chunk
+      let met_there : (r : List ℕ) → met_after met (drop at (front ++ r)) ≡ met_after met chunk
       = λ r. ap (met_after met) (there front at h r) ∙ met_front chunk r long w met right in
       let same = size rest ∙ sym (size rest') in
       record {
@@ -120,7 +120,7 @@ module _ (front rest rest' : List ℕ) where
         other = name_there front at h rest' ∙ sym (name_there front at h rest) ∙ o.other;
         right = let_by_lem rest' ∙ right;
         on = o.on ∙ ap (λ (n : ℕ). at + (8 + n + n % 2)) same;
-        format = o.format ∙ met-there rest ∙ sym (met-there rest');
+        format = o.format ∙ met_there rest ∙ sym (met_there rest');
       }
 
   come_alike : (k at : ℕ) (met : FormatMet) → at ≤ length front → Come (front ++ rest) k at met → Come (front ++ rest') k at met

@@ -35,8 +35,8 @@ fn four_at(file: &[u8], at: usize) -> u32
 
 // Whether the four bytes from `at` on are those of a name (R11.1).
 pub(crate) fn named(file: &[u8], at: usize, name: &[u8]) -> bool
-    requires fact_1 { at + 4 ≤ length file.now }
-    requires fact_2 { length name.now ≡ 4 }
+    requires in_bounds { at + 4 ≤ length file.now }
+    requires name_length { length name.now ≡ 4 }
     ensures { result ≡ begins name.now (drop at file.now) }
 {
     and(
@@ -145,8 +145,8 @@ pub(crate) fn let_by(met: FormatMet, file: &[u8], at: usize) -> bool
 
 // The format met after a chunk that was let by (R11.5).
 pub(crate) fn met_after(met: FormatMet, file: &[u8], at: usize) -> FormatMet
-    requires file_in_bounds { at + (8 + size_of (drop at file.now)) ≤ length file.now }
-    requires file_value { let_by met (drop at file.now) ≡ true }
+    requires in_bounds { at + (8 + size_of (drop at file.now)) ≤ length file.now }
+    requires was_let_by { let_by met (drop at file.now) ≡ true }
     ensures { result ≡ met_after met (drop at file.now) }
 {
     if is_first(met, file, at) {

@@ -4,6 +4,7 @@
 // and `floats` makes samples of it. The contracts cite `specs/`: chunks and format, the walk and
 // what is read, the floats of bytes.
 #![tactic(auto)]
+
 mod chunks;
 mod pcm;
 mod walks;

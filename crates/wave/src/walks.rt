@@ -22,8 +22,8 @@ fn block(f: WaveFormat) -> usize
 
 // What is read of data of so many bytes, with the format met before it (R11.7, R11.11).
 fn data_read(met: FormatMet, at: usize, size: usize) -> Reading
-    requires fact_1 { at < 4294967296 }
-    requires fact_2 { MetOk met }
+    requires at_small { at < 4294967296 }
+    requires met_ok { MetOk met }
     ensures { result ≡ data_read met at size }
 {
     match met {
@@ -44,8 +44,8 @@ fn data_read(met: FormatMet, at: usize, size: usize) -> Reading
 
 // Walks from chunk to chunk, from byte 12 on, to the data or the first refusal (R11.3, R11.4, R11.9).
 pub(crate) fn walk(file: &[u8]) -> Reading
-    requires fact_1 { 12 ≤ length file.now }
-    requires fact_2 { length file.now ≤ most_bytes }
+    requires file_begun { 12 ≤ length file.now }
+    requires file_short { length file.now ≤ most_bytes }
     ensures { result ≡ walk 0 NotYet 12 (drop 12 file.now) }
 {
     let mut met = FormatMet::NotYet;

@@ -1,17 +1,16 @@
 -- `wave::pcm::signed` meets its contract: the machine's numbers of 16 and of 32 bits with a sign, read back from their bits. Assumes nothing.
 use native.Mathlib.Omega.{arith}
-use borrow.Author.Rules.{rules, sfits_of}
+use borrow.Author.Rules.{sfits_of}
 use borrow.Author.Tests.{lt-ltb, le-ltb, lt-leb}
 use mathlib.Core.Path.{◌≡◌, refl}
-use Prim.Native.Nat.{ℕ, ◌-◌, ◌≤◌, ◌<◌}
+use Prim.Native.Nat.{ℕ, ◌≤◌, ◌<◌}
 use lib.IntN.{pos, ◌-ℤ◌}
 use lib.Signed.{mag}
 use mir.Syntax.{w16, w32}
 use mir.Val.{to_z, of_z}
 use mir.ValLaws.{to_z-of_z}
 use Rattle.wave.specs.Floats.{signed_of}
-use Rattle.wave.proofs.pcm.signed.Statement.{statement}
-use Rattle.wave.proofs.pcm.signed.Tie as tie
+use Rattle.wave.proofs.pcm.signed.Goals as goal
 
 -- a number below the half stands for itself
 small : (n : ℕ) → n < 32768 → to_z w16 n ≡ signed_of n
@@ -34,22 +33,19 @@ back n h k =
     let near = to_z-of_z w16 (signed_of n) (sfits_of p.1) in
     rw (p.0, far) near
 
-sub-result : tie.Need-overflow-sub-result
-sub-result c =
-    let p = lowered c.before.args.n c.if1.false c.before.requires in
+pub overflow_sub-result : goal.overflow_sub-result
+overflow_sub-result c =
+    let p = lowered c.args.n c.if-n-lt32768.false c.requires in
     rw p.0 (sfits_of (omega (arith, p.1)))
 
-cast-result-3 : tie.Need-overflow-cast-result-3
-cast-result-3 c =
-    let p = lowered c.before.args.n c.if1.false c.before.requires in
-    let far = to_z-of_z w32 (signed_of c.before.args.n) (sfits_of (omega (arith, p.1))) in
+pub overflow_cast-result-else-n-lt32768-2 : goal.overflow_cast-result-else-n-lt32768-2
+overflow_cast-result-else-n-lt32768-2 c =
+    let p = lowered c.args.n c.if-n-lt32768.false c.requires in
+    let far = to_z-of_z w32 (signed_of c.args.n) (sfits_of (omega (arith, p.1))) in
     rw (p.0, far) (sfits_of p.1)
 
-returns : tie.Need-returns
-returns c = small c.before.args.n c.if1.true
+pub returns-then-n-lt32768 : goal.returns-then-n-lt32768
+returns-then-n-lt32768 c = small c.args.n c.if-n-lt32768.true
 
-returns-2 : tie.Need-returns-2
-returns-2 c = back c.before.args.n c.if1.false c.before.requires
-
-pub signed-spec : {M : Type 1} → statement M
-signed-spec = tie.close (tie.spec (λ c. search rules) (λ c. search rules) sub-result cast-result-3 returns returns-2)
+pub returns-else-n-lt32768 : goal.returns-else-n-lt32768
+returns-else-n-lt32768 c = back c.args.n c.if-n-lt32768.false c.requires

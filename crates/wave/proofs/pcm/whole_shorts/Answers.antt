@@ -1,0 +1,31 @@
+-- `wave::pcm::whole_shorts` meets its contract. The invariant: what is done, before what the bytes that are left give, is what all give. Assumes nothing.
+use borrow.Author.Rules.{rules}
+use native.Mathlib.Omega.{arith}
+use mathlib.Core.Path.{◌≡◌, refl, ◌∙◌}
+use Prim.Native.Nat.{◌-◌}
+use native.Mathlib.Nat.{sub-zero}
+use lib.ListN.{length, length-set}
+use lib.Ieee.{nan}
+use Rattle.samples.proofs.Turns.{stored, all_done}
+use Rattle.wave.specs.Floats.{short_sample}
+use Rattle.wire.proofs.Unpacking.{unpacked_more}
+use Rattle.wave.proofs.pcm.whole_shorts.Goals as goal
+
+pub loop-i-init : goal.loop-i-init
+loop-i-init c = (search rules, refl, rw sub-zero refl)
+
+pub loop-i-preserved : goal.loop-i-preserved
+loop-i-preserved c =
+    let l = c.loop-i in
+    let a = c.args in
+    let e = unpacked_more 2 short_sample a.bytes.now (length a.out.now) l.i (omega arith) (omega arith) in (
+      omega arith,
+      simp length-set l.invariant.1,
+      stored l.out l.i nan (omega arith) _ (rw (c.short_sample.ensures, c.two_at.ensures.0) e) ∙ l.invariant.2,
+    )
+
+pub returns : goal.returns
+returns c =
+    let l = c.loop-i in
+    let none : length c.args.out.now - l.i ≡ 0 = omega arith in
+    all_done l.out l.i (omega arith) ∙ rw none at l.invariant.2

@@ -1,0 +1,14 @@
+-- `wave::walks::walk` meets its contract: what the walk gives from the chunk on at which the loop is, is what it gives from byte 12 on. Assumes nothing.
+use mathlib.Core.Path.{◌≡◌}
+use Prim.Native.Nat.{◌+◌, ◌-◌, ◌≤◌}
+use lib.ListN.{length, drop}
+use Rattle.wave.specs.declared.FormatMet.TheVariants.{NotYet}
+use Rattle.wave.specs.Reading.{walk}
+use Rattle.wave.specs.Workers.{MetOk}
+use Rattle.wave.proofs.walks.walk.Given as goal
+
+abbrev pub invariant-loop-at : goal.invariant-loop-at
+invariant-loop-at l = (l.at ≤ length l.file + 1) × (MetOk l.met) × (walk 0 l.met l.at (drop l.at l.file) ≡ walk 0 NotYet 12 (drop 12 l.file))
+
+abbrev pub decreases-loop-at : goal.decreases-loop-at
+decreases-loop-at l = length l.file - l.at
