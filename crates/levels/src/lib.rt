@@ -3,6 +3,7 @@
 //
 // Its contracts cite `specs/`: what scaling and mixing give, and what the calls refuse.
 #![tactic(auto)]
+
 ghost use Rattle.std.specs.Prelude.{◌≡◌, ◌*◌, ◌≤◌, length, replicate};
 ghost use Rattle.samples.specs.Binary32.{+0};
 ghost use Rattle.samples.specs.Answers.{accept};

@@ -1,5 +1,5 @@
 pub mod Laws
 pub mod Outcomes
 pub mod Totals
-pub mod Places
+pub mod PlaceLaws
 pub mod Ranges

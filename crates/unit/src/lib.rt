@@ -2,6 +2,7 @@
 //
 // Its contracts cite `specs/`, over any model of the unit: the code here is the wall unit's.
 #![tactic(auto)]
+
 mod layout;
 mod range;
 mod room;

@@ -2,7 +2,7 @@
 use borrow.Author.Rules.{rules}
 use mathlib.Core.Path.{◌≡◌}
 use Rattle.unit.specs.Layout.{places_of}
-use Rattle.unit.proofs.Places.{placed, Placed, each}
+use Rattle.unit.proofs.PlaceLaws.{placed, Placed, each}
 use Rattle.rows.proofs.RowJoins.{lines_join}
 use Rattle.rows.proofs.lines_in.Statement.{statement}
 use Rattle.rows.proofs.lines_in.Tie as tie

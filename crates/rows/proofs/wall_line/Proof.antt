@@ -5,7 +5,7 @@ use mathlib.Core.Path.{◌≡◌}
 use lib.ListN.{length}
 use Prim.Native.Nat.{◌+◌, ◌*◌, ◌≤◌}
 use Rattle.unit.specs.Layout.{total, places_of}
-use Rattle.unit.proofs.Places.{placed, Placed, each}
+use Rattle.unit.proofs.PlaceLaws.{placed, Placed, each}
 use Rattle.rows.proofs.Ways.{done_within}
 use Rattle.samples.proofs.Rows.{row_ends}
 use Rattle.rows.proofs.LineLaid.{line_laid_lem}

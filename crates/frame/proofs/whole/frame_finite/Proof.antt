@@ -7,7 +7,7 @@ use Rattle.search.specs.Search.{all_finite}
 use Rattle.samples.proofs.Lists.{end_is}
 use Rattle.unit.specs.declared.layout.Places.{Places}
 use Rattle.unit.specs.Layout.{places_of}
-use Rattle.unit.proofs.Places.{placed, Placed, each}
+use Rattle.unit.proofs.PlaceLaws.{placed, Placed, each}
 use Rattle.stages.specs.Settle.{filters_finite}
 use Rattle.frame.proofs.RowsOf.{judged_rows_lem}
 use Rattle.frame.proofs.whole.frame_finite.Statement.{statement}

@@ -2,7 +2,7 @@
 use borrow.Author.Rules.{rules}
 use mathlib.Core.Path.{◌≡◌}
 use Rattle.unit.specs.Layout.{places_of}
-use Rattle.unit.proofs.Places.{placed, Placed, each}
+use Rattle.unit.proofs.PlaceLaws.{placed, Placed, each}
 use Rattle.frame.proofs.RowJoins.{frame_join}
 use Rattle.frame.proofs.whole.frame_rows.Statement.{statement}
 use Rattle.frame.proofs.whole.frame_rows.Tie as tie

@@ -2,7 +2,7 @@
 use borrow.Author.Rules.{rules}
 use mathlib.Core.Path.{◌≡◌}
 use Rattle.unit.specs.Layout.{places_of}
-use Rattle.unit.proofs.Places.{placed, Placed, each}
+use Rattle.unit.proofs.PlaceLaws.{placed, Placed, each}
 use Rattle.frame.proofs.RowJoins.{lines_join}
 use Rattle.frame.proofs.whole.play_lines.Statement.{statement}
 use Rattle.frame.proofs.whole.play_lines.Tie as tie

@@ -8,7 +8,7 @@ use Rattle.stages.proofs.RowLaws.{copied_all}
 use Rattle.samples.proofs.Turns.{lent}
 use Rattle.samples.proofs.Lists.{lent_long, end_is}
 use Rattle.unit.specs.Layout.{places_of}
-use Rattle.unit.proofs.Places.{placed, Placed, each}
+use Rattle.unit.proofs.PlaceLaws.{placed, Placed, each}
 use Rattle.stages.specs.Settle.{settled}
 use Rattle.rows.specs.Rows.{rows_of}
 use Rattle.frame.proofs.whole.settle_frame.Statement.{statement}

@@ -1,7 +1,7 @@
 -- `jobs::steps::mix_rows` meets its contract. Assumes nothing.
 use native.Mathlib.Omega.{arith}
 use borrow.Author.Rules.{rules}
-use Rattle.unit.proofs.Places.{placed, Placed, each}
+use Rattle.unit.proofs.PlaceLaws.{placed, Placed, each}
 use Rattle.jobs.proofs.Laid.{mix_laid_lem}
 use Rattle.jobs.proofs.steps.mix_rows.Statement.{statement}
 use Rattle.jobs.proofs.steps.mix_rows.Tie as tie

@@ -3,7 +3,7 @@ use borrow.Author.Rules.{rules}
 use native.Mathlib.Omega.{arith}
 use lib.ListN.{length}
 use Rattle.unit.specs.UnitState.{of_state}
-use Rattle.unit.proofs.Places.{placed, Placed, each}
+use Rattle.unit.proofs.PlaceLaws.{placed, Placed, each}
 use Rattle.opening.proofs.Opened.{begin_laid, lines_before}
 use Rattle.opening.proofs.begin.begin_work.Statement.{statement}
 use Rattle.opening.proofs.begin.begin_work.Tie as tie

@@ -4,7 +4,7 @@ use native.Mathlib.Omega.{arith}
 use mathlib.Core.Path.{◌≡◌}
 use Prim.Native.Nat.{◌*◌, ◌≤◌}
 use Rattle.unit.specs.Layout.{places_of}
-use Rattle.unit.proofs.Places.{placed, Placed, each}
+use Rattle.unit.proofs.PlaceLaws.{placed, Placed, each}
 use Rattle.rows.proofs.Ways.{done_within}
 use Rattle.outputs.proofs.OutputJoins.{output_join}
 use Rattle.outputs.proofs.passes.output_in.Statement.{statement}

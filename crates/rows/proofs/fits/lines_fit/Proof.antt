@@ -4,7 +4,7 @@ use mathlib.Core.Path.{◌≡◌, refl}
 use mathlib.Core.Bool.{true, false}
 use Prim.Native.Nat.{ℕ, ◌+◌, ◌*◌}
 use lib.Dec.{eqb}
-use Rattle.unit.proofs.Places.{placed}
+use Rattle.unit.proofs.PlaceLaws.{placed}
 use Rattle.rows.specs.Fits.{few_rows, lines_fit}
 use Rattle.rows.proofs.Ways.{shut, let_in}
 use Rattle.rows.proofs.RowFits.{Few, few_of}

@@ -6,7 +6,7 @@ use mathlib.Core.List.{List}
 use Prim.Native.Nat.{ℕ, ◌%◌}
 use lib.Dec.{eqb}
 use Rattle.unit.specs.Layout.{places_of}
-use Rattle.unit.proofs.Places.{placed}
+use Rattle.unit.proofs.PlaceLaws.{placed}
 use Rattle.rows.specs.Fits.{few_rows, output_fits}
 use Rattle.rows.proofs.Ways.{shut, let_in}
 use Rattle.rows.proofs.RowFits.{few_of, output_short, output_long}

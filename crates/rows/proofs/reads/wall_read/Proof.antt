@@ -6,7 +6,7 @@ use mathlib.Core.Path.{◌≡◌, refl, ◌∙◌}
 use Prim.Native.Nat.{◌+◌, ◌*◌, ◌≤◌}
 use lib.ListN.{length, get_or, take}
 use Rattle.unit.specs.Layout.{total, store_len}
-use Rattle.unit.proofs.Places.{placed, Placed, each}
+use Rattle.unit.proofs.PlaceLaws.{placed, Placed, each}
 use Rattle.unit.proofs.Ranges.{holds_all}
 use Rattle.samples.proofs.Rows.{row_ends}
 use Rattle.rows.proofs.ReadLaid.{ring_within, read-laid}

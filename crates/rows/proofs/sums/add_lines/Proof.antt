@@ -7,7 +7,7 @@ use mathlib.Core.List.{◌++◌}
 use Prim.Native.Nat.{◌≤◌, ◌+◌, ◌-◌, ◌*◌}
 use native.Mathlib.Nat.{sub-zero}
 use lib.ListN.{length, take, drop}
-use Rattle.unit.proofs.Places.{placed}
+use Rattle.unit.proofs.PlaceLaws.{placed}
 use Rattle.stages.specs.Lines.{add_rows}
 use Rattle.samples.proofs.Rows.{all_left, row_fits}
 use Rattle.rows.proofs.SumTurns.{Adding, add_turn, add_done}
