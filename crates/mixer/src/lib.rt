@@ -2,6 +2,7 @@
 //
 // Its contracts cite `specs/`: what a pass over two rows makes of them, and what the passes come to.
 #![tactic(auto)]
+
 ghost use Rattle.std.specs.Prelude.{◌≡◌, ◌+◌, ◌*◌, ◌/◌, ◌%◌, ◌<◌, ◌≤◌, length};
 ghost use Rattle.samples.specs.Binary32.{◌⊕◌, ◌⊖◌, ◌⊗◌};
 ghost use Rattle.samples.specs.Answers.{accept};
