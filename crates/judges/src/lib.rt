@@ -3,6 +3,7 @@
 // Its contracts cite `specs/`, over any model of the unit: what each call is judged by, where the marks of
 // an open frame stand, and what each of its jobs waits for.
 #![tactic(auto)]
+
 mod marks;
 mod turns;
 

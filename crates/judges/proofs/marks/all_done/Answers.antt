@@ -5,14 +5,10 @@ use lib.ListN.{length}
 use lib.Seq.{take_all}
 use Rattle.judges.specs.Marks.{all_done}
 use borrow.Author.Rules.{rules}
-use Rattle.judges.proofs.marks.all_done.Statement.{statement}
-use Rattle.judges.proofs.marks.all_done.Tie as tie
+use Rattle.judges.proofs.marks.all_done.Goals as goal
 
-returns : tie.Need-returns
+pub returns : goal.returns
 returns c =
-    let marks = c.before.args.marks in
+    let marks = c.args.marks in
     let all : length marks ≤ 34 = search rules in
     c.first_done.ensures ∙ ap all_done (take_all 34 marks all)
-
-pub all-done-spec : {M : Type 1} → statement M
-all-done-spec = tie.close (tie.spec (λ c κs. search rules) returns)

@@ -1,0 +1,13 @@
+-- `judges::judge_open_tail` meets its contract. Assumes nothing.
+use mathlib.Core.Path.{ap, ◌∙◌}
+use mathlib.Core.Bool.{Bool, true, not, ◌&&◌}
+use Rattle.unit.specs.UnitState.{of_state}
+use Rattle.unit.specs.Layout.{wall}
+use Rattle.judges.specs.Judges.{judged}
+use Rattle.judges.proofs.turns.judge_open_tail.Goals as goal
+
+pub returns : goal.returns
+returns c =
+    let s = c.args.s in
+    let lengths = c.and.ensures ∙ (λ i. c.store_ok.ensures i && c.work_ok.ensures i) in
+    c.judge.ensures ∙ ap (λ (b : Bool). judged wall (of_state s) b true (not s.busy)) lengths
