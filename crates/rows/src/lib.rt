@@ -4,6 +4,7 @@
 // Its contracts cite `specs/`: how the rows of a frame lie, what the steps ask of the memory lent, and
 // what they leave of it.
 #![tactic(auto)]
+
 mod filters;
 mod fits;
 mod reads;

@@ -1,5 +1,4 @@
 -- `rows::line_rows` meets its contract. Assumes nothing.
-use borrow.Author.Rules.{rules}
 use mathlib.Core.Path.{◌≡◌, refl}
 use mathlib.Core.Bool.{Bool, true, false}
 use mathlib.Core.List.{List, ◌++◌}
@@ -11,8 +10,9 @@ use Rattle.rows.specs.Fits.{lines_fit}
 use Rattle.rows.specs.Steps.{lines_in, lines_laid, lines_ends}
 use Rattle.rows.proofs.Ways.{shut, let_in}
 use Rattle.rows.proofs.RowFits.{lines_of}
-use Rattle.rows.proofs.line_rows.Statement.{statement}
-use Rattle.rows.proofs.line_rows.Tie as tie
+use mathlib.Core.Path.{ap}
+use mathlib.Core.Bool.{not}
+use Rattle.rows.proofs.line_rows.Goals as goal
 
 nothing : (n f : ℕ) (k : Float) (tail : Bool) (fs : List Filter) (rows : List Float) → lines_fit n f (length rows) ≡ false
     → (fs ≡ lines_ends n f k tail fs rows) × (rows ≡ lines_laid n f k tail fs rows)
@@ -26,23 +26,18 @@ all : (n f : ℕ) (k : Float) (tail : Bool) (fs gs : List Filter) (rows w : List
 unfolding lines_ends lines_laid
 all n f k tail fs gs rows w e p = rw e p
 
-returns : tie.Need-returns
+-- what it ensures, clause by clause
+ends_of : {A B : Type 0} → A × B → record { value : A; rows_after : B }
+ends_of p = record { value = p.0; rows_after = p.1 }
+
+pub returns-then-not-lines_fit : goal.returns-then-not-lines_fit
+returns-then-not-lines_fit c =
+    let a = c.args in ends_of (nothing a.n a.f a.factor a.tail a.fs a.rows.now (shut _ _ c.lines_fit.ensures (ap not c.if-not-lines_fit.true)))
+
+pub lines_in-requires : goal.lines_in-requires
+lines_in-requires c =
+    lines_of _ _ _ (let_in _ _ c.lines_fit.ensures (ap not c.if-not-lines_fit.false))
+
+pub returns : goal.returns
 returns c =
-    let a = c.before.before.before.args in
-    nothing a.n a.f a.factor a.tail a.fs a.rows.now (shut _ _ c.before.lines_fit.ensures c.if1.true)
-
-lines-in-requires : tie.Need-lines-in-requires
-lines-in-requires c κs =
-    let tested = c.before in
-    lines_of _ _ _ (let_in _ _ tested.before.lines_fit.ensures tested.if1.false)
-
-returns-2 : tie.Need-returns-2
-returns-2 c =
-    let ran = c.before.before in
-    let tested = ran.before.before in
-    let a = tested.before.before.before.args in
-    all a.n a.f a.factor a.tail a.fs _ a.rows.now _ (let_in _ _ tested.before.lines_fit.ensures tested.if1.false) ran.lines_in_lem.ensures
-
-pub line-rows-spec : {M : Type 1} → statement M
-line-rows-spec =
-    tie.close (tie.spec (λ c κs. search rules) returns lines-in-requires (λ c. search rules) returns-2)
+    let a = c.args in ends_of (all a.n a.f a.factor a.tail a.fs _ a.rows.now _ (let_in _ _ c.lines_fit.ensures (ap not c.if-not-lines_fit.false)) (c.lines_in.ensures.value, c.lines_in.ensures.rows_after))
