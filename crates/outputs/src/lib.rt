@@ -3,6 +3,7 @@
 //
 // Its contracts cite `specs/`: what step 5 leaves of the memory lent and of the filters.
 #![tactic(auto)]
+
 mod passes;
 mod sums;
 
