@@ -3,6 +3,7 @@
 //
 // Its contracts cite `specs/`: what the steps ask of the memory lent, and what a frame leaves of it.
 #![tactic(auto)]
+
 mod steps;
 mod whole;
 
