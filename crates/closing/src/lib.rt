@@ -2,6 +2,7 @@
 //
 // Its contracts cite the machine: how a close and an abandon end.
 #![tactic(auto)]
+
 mod ends;
 
 ghost use Rattle.std.specs.Prelude.{◌≡◌, []};
