@@ -3,6 +3,7 @@
 //
 // Their contracts cite the machine: how each call ends.
 #![tactic(auto)]
+
 mod filters;
 mod several;
 mod units;

@@ -1,0 +1,12 @@
+-- `reverb::filters::filters_from` meets its contract. The invariant: the filters so far, then those of the coefficients left, are the answer.
+-- Assumes nothing.
+use mathlib.Core.Path.{◌≡◌}
+use mathlib.Core.List.{◌++◌}
+use Prim.Native.Nat.{◌*◌, ◌≤◌, ◌-◌}
+use lib.ListN.{length, take, drop}
+use Rattle.stages.specs.Lines.{filters_of}
+use Rattle.reverb.proofs.filters.filters_from.Given as goal
+
+abbrev pub invariant-loop-i : goal.invariant-loop-i
+invariant-loop-i l =
+    (l.i ≤ 51) × (l.k ≡ 5 * l.i) × (length l.fs ≡ 51) × (take l.i l.fs ++ filters_of (51 - l.i) (drop l.k l.coefficients) ≡ filters_of 51 l.coefficients)
