@@ -4,11 +4,21 @@
 // What lies between a read and a write is `shell`'s, with a contract. No contract can say which
 // bytes are read or written.
 #![tactic(auto)]
+
 ghost use Rattle.std.specs.Prelude.{◌≤◌, length};
 
-use libc::{STDIN_FILENO, STDOUT_FILENO};
 use shell::{BYTES, STORE, WORK};
+use std::io::Read;
+use std::process::ExitCode;
 use unit::State;
+
+// What the program reads and writes by, and whether all reads and writes so far were done.
+#[derive(Drop)]
+struct Ends<'a, T: Print + Eprint, R: Read + Drop> {
+    rt: &'a T,
+    input: R,
+    well: bool,
+}
 
 // Where a turn leaves the unit, whether what it made was written, and whether it was the last.
 #[derive(Clone, Copy)]
@@ -20,23 +30,26 @@ struct Went {
 
 // One read: how many bytes came, none at the input's end. A read that fails is said, and ends the
 // input (R9.15).
-fn get_some(bytes: &mut [u8]) -> usize
+fn get_some<T: Print + Eprint, R: Read + Drop>(ends: &mut Ends<'_, T, R>, bytes: &mut [u8]) -> usize
     ensures { result ≤ length bytes.old }
 {
-    let got = libc::read(STDIN_FILENO, bytes);
-    if got < 0 {
-        os::fail(b"wall_unit: standard input");
+    match ends.input.read(bytes) {
+        Ok(n) => n,
+        Err(e) => {
+            ends.well = false;
+            let _ = eprintln!(ends.rt; "wall_unit: standard input: {e}");
+            0
+        }
     }
-    io::count(got, bytes)
 }
 
 // Reads until a frame is full or the input ends, over as many reads as that takes.
-fn get(bytes: &mut [u8]) -> usize
+fn get<T: Print + Eprint, R: Read + Drop>(ends: &mut Ends<'_, T, R>, bytes: &mut [u8]) -> usize
     ensures { result ≤ length bytes.old }
 {
     let mut n = 0usize;
     while n < bytes.len() {
-        let more = get_some(&mut bytes[n..]);
+        let more = get_some(ends, &mut bytes[n..]);
         if more == 0 {
             break;
         }
@@ -46,18 +59,26 @@ fn get(bytes: &mut [u8]) -> usize
 }
 
 // Writes a frame. A write that fails is said (R9.15).
-fn put(out: &[u8; BYTES]) -> bool {
-    let written = io::write_all(STDOUT_FILENO, out);
-    if !written {
-        os::fail(b"wall_unit: standard output");
+fn put<T: Print + Eprint, R: Read + Drop>(ends: &mut Ends<'_, T, R>, out: &[u8; BYTES]) -> bool {
+    match ends.rt.write_all(out) {
+        Ok(()) => true,
+        Err(e) => {
+            ends.well = false;
+            let _ = eprintln!(ends.rt; "wall_unit: standard output: {e}");
+            false
+        }
     }
-    written
 }
 
 // A frame of input (R9.5). The last may be short, and fewer bytes than a sample's are none (R9.7).
-fn turn(s: State, store: &mut [f32; STORE], work: &mut [f32; WORK]) -> Went {
+fn turn<T: Print + Eprint, R: Read + Drop>(
+    ends: &mut Ends<'_, T, R>,
+    s: State,
+    store: &mut [f32; STORE],
+    work: &mut [f32; WORK],
+) -> Went {
     let mut bytes = [0u8; BYTES];
-    let n = get(&mut bytes);
+    let n = get(ends, &mut bytes);
     if n < 4 {
         return Went {
             state: s,
@@ -68,7 +89,7 @@ fn turn(s: State, store: &mut [f32; STORE], work: &mut [f32; WORK]) -> Went {
     let mut out = [0u8; BYTES];
     let a = shell::input_frame(s, &bytes[0..n], store, work, &mut out);
     let state = a.state;
-    let written = put(&out);
+    let written = put(ends, &out);
     Went {
         state,
         written,
@@ -78,12 +99,17 @@ fn turn(s: State, store: &mut [f32; STORE], work: &mut [f32; WORK]) -> Went {
 
 // All frames of input. Nothing says that the input ends, so the turns are counted down from a number
 // that no run uses up.
-fn frames(s: State, store: &mut [f32; STORE], work: &mut [f32; WORK]) -> Went {
+fn frames<T: Print + Eprint, R: Read + Drop>(
+    ends: &mut Ends<'_, T, R>,
+    s: State,
+    store: &mut [f32; STORE],
+    work: &mut [f32; WORK],
+) -> Went {
     let mut state = s;
     let mut written = true;
     let mut turns = u64::MAX;
     while turns > 0 {
-        let w = turn(state, store, work);
+        let w = turn(ends, state, store, work);
         state = w.state;
         written = w.written;
         if w.last {
@@ -99,11 +125,16 @@ fn frames(s: State, store: &mut [f32; STORE], work: &mut [f32; WORK]) -> Went {
 }
 
 // A frame of the tail.
-fn tail_turn(s: State, store: &mut [f32; STORE], work: &mut [f32; WORK]) -> Went {
+fn tail_turn<T: Print + Eprint, R: Read + Drop>(
+    ends: &mut Ends<'_, T, R>,
+    s: State,
+    store: &mut [f32; STORE],
+    work: &mut [f32; WORK],
+) -> Went {
     let mut out = [0u8; BYTES];
     let a = shell::tail_frame(s, store, work, &mut out);
     let state = a.state;
-    let written = put(&out);
+    let written = put(ends, &out);
     Went {
         state,
         written,
@@ -112,11 +143,17 @@ fn tail_turn(s: State, store: &mut [f32; STORE], work: &mut [f32; WORK]) -> Went
 }
 
 // So many frames of the tail (R9.13), or fewer where one can't be written.
-fn tails(s: State, calls: u32, store: &mut [f32; STORE], work: &mut [f32; WORK]) {
+fn tails<T: Print + Eprint, R: Read + Drop>(
+    ends: &mut Ends<'_, T, R>,
+    s: State,
+    calls: u32,
+    store: &mut [f32; STORE],
+    work: &mut [f32; WORK],
+) {
     let mut state = s;
     let mut left = calls;
     while left > 0 {
-        let w = tail_turn(state, store, work);
+        let w = tail_turn(ends, state, store, work);
         state = w.state;
         if w.last {
             break;
@@ -126,18 +163,33 @@ fn tails(s: State, calls: u32, store: &mut [f32; STORE], work: &mut [f32; WORK])
 }
 
 // The whole program, on the memory lent.
-fn play(store: &mut [f32; STORE], work: &mut [f32; WORK]) {
+fn play<T: Print + Eprint, R: Read + Drop>(
+    ends: &mut Ends<'_, T, R>,
+    store: &mut [f32; STORE],
+    work: &mut [f32; WORK],
+) {
     let fresh = shell::start(store);
-    let w = frames(fresh.state, store, work);
+    let w = frames(ends, fresh.state, store, work);
     let state = w.state;
     let count = state.count;
     if w.written {
-        tails(state, shell::tail_calls(count), store, work);
+        tails(ends, state, shell::tail_calls(count), store, work);
     }
 }
 
-fn main() {
+// Ends with status 1 where a read or a write failed.
+fn main(rt: HostRuntime) -> ExitCode {
     let mut store = [0.0f32; STORE];
     let mut work = [0.0f32; WORK];
-    play(&mut store, &mut work);
+    let mut ends = Ends {
+        rt: &rt,
+        input: rt.reader(),
+        well: true,
+    };
+    play(&mut ends, &mut store, &mut work);
+    if ends.well {
+        ExitCode::SUCCESS
+    } else {
+        ExitCode::FAILURE
+    }
 }
