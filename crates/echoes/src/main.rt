@@ -1,8 +1,9 @@
 // Examples of frames, through the unit's calls: which frames a fresh unit takes (R9.28), and where the
 // first echoes of a click fall (R9.27).
 #![tactic(auto)]
+
 use bands::Times;
-use libc::STDOUT_FILENO;
+use std::io;
 use unit::{
     ALLPASS_FLOATS, BANDS, COEFFICIENTS, DELAYS_AND_RINGS, FILTERS, LINES, PER_FILTER, ROWS, State,
     TONE,
@@ -21,15 +22,11 @@ const WORK: usize = ROWS * FRAME + ALLPASS_FLOATS;
 // Where b0 stands among the coefficients of a filter.
 const B0: usize = 2;
 
-// What a fresh unit answers for frames of that many samples, on a store of their length.
-fn size(frame: usize, store: &mut [f32]) {
+// Writes what a fresh unit answers for frames of that many samples, on a store of their length.
+fn size(rt: &impl Print, frame: usize, store: &mut [f32]) -> io::Result<()> {
     let a = reverb::fresh(RATE, frame, store);
-    let answer = a.answer;
-    io::write_all(STDOUT_FILENO, b"a frame of ");
-    io::print_decimal(STDOUT_FILENO, frame as u64);
-    io::write_all(STDOUT_FILENO, b" is answered ");
-    io::print_decimal(STDOUT_FILENO, samples::number(answer) as u64);
-    io::write_all(STDOUT_FILENO, b"\n");
+    let number = samples::number(a.answer);
+    println!(rt; "a frame of {frame} is answered {number}")
 }
 
 // The program's filters: band 0 of each line halves, every other filter lets by.
@@ -42,22 +39,20 @@ fn coefficients() -> [f32; COEFFICIENTS] {
 }
 
 // Writes a sample by its bits.
-fn say(at: u64, x: f32) {
-    io::write_all(STDOUT_FILENO, b"sample ");
-    io::print_decimal(STDOUT_FILENO, at);
-    io::write_all(STDOUT_FILENO, b" is ");
-    io::print_hex(STDOUT_FILENO, wire::bits(x) as u64, 8);
-    io::write_all(STDOUT_FILENO, b"\n");
+fn say(rt: &impl Print, at: u64, x: f32) -> io::Result<()> {
+    let bits = wire::bits(x);
+    println!(rt; "sample {at} is {bits:08x}")
 }
 
 // Writes the samples of a frame that are not exactly +0. The frame's first is sample `at`.
-fn show(row: &[f32; FRAME], at: u32) {
+fn show(rt: &impl Print, row: &[f32; FRAME], at: u32) -> io::Result<()> {
     for i in 0..FRAME {
         let x = row[i];
         if !samples::is_plus_zero(x) {
-            say(at as u64 + i as u64, x);
+            say(rt, at as u64 + i as u64, x)?;
         }
     }
+    Ok(())
 }
 
 // The frame of the click.
@@ -74,23 +69,24 @@ fn first(s: State, store: &mut [f32], work: &mut [f32], output: &mut [f32]) -> S
 }
 
 // A click, and three frames after it.
-fn click(store: &mut [f32], work: &mut [f32]) {
+fn click(rt: &impl Print, store: &mut [f32], work: &mut [f32]) -> io::Result<()> {
     let fresh = reverb::fresh(RATE, FRAME, store);
     let mut output = [0.0f32; FRAME];
     let mut state = first(fresh.state, store, work, &mut output);
-    show(&output, 0);
+    show(rt, &output, 0)?;
     for k in 1..4u32 {
         let a = reverb::tail(state, store, work, &mut output);
         state = a.state;
-        show(&output, FRAME as u32 * k);
+        show(rt, &output, FRAME as u32 * k)?;
     }
+    Ok(())
 }
 
-fn main() {
-    size(4, &mut [0.0f32; DELAYS_AND_RINGS + LINES * 4]);
-    size(1024, &mut [0.0f32; DELAYS_AND_RINGS + LINES * 1024]);
-    size(0, &mut [0.0f32; DELAYS_AND_RINGS]);
-    size(6, &mut [0.0f32; DELAYS_AND_RINGS + LINES * 6]);
-    size(1028, &mut [0.0f32; DELAYS_AND_RINGS + LINES * 1028]);
-    click(&mut [0.0f32; STORE], &mut [0.0f32; WORK]);
+fn main(rt: HostRuntime) -> io::Result<()> {
+    size(&rt, 4, &mut [0.0f32; DELAYS_AND_RINGS + LINES * 4])?;
+    size(&rt, 1024, &mut [0.0f32; DELAYS_AND_RINGS + LINES * 1024])?;
+    size(&rt, 0, &mut [0.0f32; DELAYS_AND_RINGS])?;
+    size(&rt, 6, &mut [0.0f32; DELAYS_AND_RINGS + LINES * 6])?;
+    size(&rt, 1028, &mut [0.0f32; DELAYS_AND_RINGS + LINES * 1028])?;
+    click(&rt, &mut [0.0f32; STORE], &mut [0.0f32; WORK])
 }

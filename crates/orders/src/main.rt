@@ -1,11 +1,12 @@
 // One frame done as jobs in three orders, with requests among them that are refused, beside the whole
 // call on the same unit.
 #![tactic(auto)]
+
 use bands::Times;
 use iir::Filter;
 use jobs::{job_line, job_mix, job_output, job_read};
-use libc::STDOUT_FILENO;
 use samples::{and, number};
+use std::io;
 use unit::{
     ALLPASS_FLOATS, COEFFICIENTS, DELAYS_AND_RINGS, FILTERS, JOBS, LINE_MARK, LINES, MIX_MARK,
     OUTPUT_MARK, Outcome, PER_FILTER, ROWS, State,
@@ -241,22 +242,24 @@ fn same_unit(s: State, t: State) -> bool {
 }
 
 // Writes how an order went.
-fn say(order: u32, ok: bool, equal: bool) {
-    io::write_all(STDOUT_FILENO, b"order ");
-    io::print_decimal(STDOUT_FILENO, order as u64);
+fn say(rt: &impl Print, order: u32, ok: bool, equal: bool) -> io::Result<()> {
     if !ok {
-        io::write_all(STDOUT_FILENO, b": a request was answered wrongly\n");
-        return;
+        return println!(rt; "order {order}: a request was answered wrongly");
     }
     if !equal {
-        io::write_all(STDOUT_FILENO, b": not the whole call\n");
-        return;
+        return println!(rt; "order {order}: not the whole call");
     }
-    io::write_all(STDOUT_FILENO, b": the whole call, bit for bit\n");
+    println!(rt; "order {order}: the whole call, bit for bit")
 }
 
 // The frame as jobs in an order, beside what the whole call left.
-fn compare(order: u32, whole: State, store: &[f32], output: &[f32]) {
+fn compare(
+    rt: &impl Print,
+    order: u32,
+    whole: State,
+    store: &[f32],
+    output: &[f32],
+) -> io::Result<()> {
     let mut st = [0.0f32; STORE];
     let mut work = [0.5f32; WORK];
     let mut out = [0.0f32; FRAME];
@@ -273,10 +276,10 @@ fn compare(order: u32, whole: State, store: &[f32], output: &[f32]) {
     let c = answered(p.ok, closing::close(q, &mut st, &mut work, &mut out), 0);
     let end = c.state;
     let memory = and(same(&st, store), same(&out, output));
-    say(order, c.ok, and(memory, same_unit(end, whole)));
+    say(rt, order, c.ok, and(memory, same_unit(end, whole)))
 }
 
-fn main() {
+fn main(rt: HostRuntime) -> io::Result<()> {
     let mut store = [0.0f32; STORE];
     let mut work = [0.5f32; WORK];
     let mut output = [0.0f32; FRAME];
@@ -286,6 +289,7 @@ fn main() {
     let a = reverb::apply(s, times(), &cs, &input, &mut store, &mut work, &mut output);
     let whole = a.state;
     for order in 0..3u32 {
-        compare(order, whole, &store, &output);
+        compare(&rt, order, whole, &store, &output)?;
     }
+    Ok(())
 }

@@ -1,14 +1,23 @@
 // What a unit keeps, compared: the cursors of its rings and its filters.
-use crate::tape::{Tape, same_cursors, same_row};
+use crate::tape::{Ends, Tape, same_cursors, same_row};
 use delay::Cursors;
 use iir::Filter;
+use std::io;
+use std::io::Read;
 use unit::{FILTERS, LINES, PASS_RINGS};
 
 // Compares a filter's nine numbers. `at` is what the first is called.
-pub(crate) fn same_filter(t: Tape, at: usize, f: Filter, bytes: &mut [u8]) -> Tape {
+pub(crate) fn same_filter<T: Print, R: Read + Drop>(
+    ends: &mut Ends<'_, T, R>,
+    t: Tape,
+    at: usize,
+    f: Filter,
+    bytes: &mut [u8],
+) -> io::Result<Tape> {
     same_row(
+        ends,
         t,
-        b"filter number",
+        "filter number",
         at,
         &[f.a1, f.a2, f.b0, f.b1, f.b2, f.x1, f.x2, f.y1, f.y2],
         bytes,
@@ -26,20 +35,30 @@ fn cursors_of(lines: [Cursors; LINES], passes: [Cursors; PASS_RINGS], ring: usiz
 }
 
 // Compares the cursors of all rings.
-pub(crate) fn same_rings(t: Tape, lines: [Cursors; LINES], passes: [Cursors; PASS_RINGS]) -> Tape {
+pub(crate) fn same_rings<T: Print, R: Read + Drop>(
+    ends: &mut Ends<'_, T, R>,
+    t: Tape,
+    lines: [Cursors; LINES],
+    passes: [Cursors; PASS_RINGS],
+) -> io::Result<Tape> {
     let mut u = t;
     for i in 0..LINES + PASS_RINGS {
-        u = same_cursors(u, i, cursors_of(lines, passes, i));
+        u = same_cursors(ends, u, i, cursors_of(lines, passes, i))?;
     }
-    u
+    Ok(u)
 }
 
 // Compares the filters: nine numbers each, in a row.
-pub(crate) fn same_filters(t: Tape, fs: [Filter; FILTERS], bytes: &mut [u8]) -> Tape {
+pub(crate) fn same_filters<T: Print, R: Read + Drop>(
+    ends: &mut Ends<'_, T, R>,
+    t: Tape,
+    fs: [Filter; FILTERS],
+    bytes: &mut [u8],
+) -> io::Result<Tape> {
     let mut u = t;
     for i in 0..FILTERS {
         let f = fs[i];
-        u = same_filter(u, 9 * i, f, bytes);
+        u = same_filter(ends, u, 9 * i, f, bytes)?;
     }
-    u
+    Ok(u)
 }

@@ -1,9 +1,9 @@
 // The records as they come from standard input, and what is compared with them.
-ghost use Rattle.std.specs.Prelude.{◌<◌};
+ghost use Rattle.std.specs.Prelude.{◌<◌, ◌≤◌, IfOk, length};
 
 use delay::Cursors;
-use libc::{STDIN_FILENO, STDOUT_FILENO};
-use std::num::{wrapping_add_u64, wrapping_add_usize};
+use std::io;
+use std::io::Read;
 
 // The kinds of records.
 pub(crate) const UNIT: u32 = 1;
@@ -17,6 +17,13 @@ pub(crate) const TAIL: u32 = 4;
 pub(crate) const RESET: u32 = 5;
 
 pub(crate) const KEPT: u32 = 6;
+
+// What the replay writes and reads by.
+#[derive(Drop)]
+pub(crate) struct Ends<'a, T: Print, R: Read + Drop> {
+    pub(crate) rt: &'a T,
+    pub(crate) input: R,
+}
 
 // Where the replay is: how many records have begun and how many numbers of theirs were compared,
 // whether all were equal, whether there is a record to play, and that record's kind and numbers.
@@ -80,33 +87,53 @@ fn ended(t: Tape, good: bool) -> Tape {
 }
 
 // Ends the replay, as a record isn't whole.
-pub(crate) fn cut(t: Tape) -> Tape {
-    io::write_all(STDOUT_FILENO, b"replay: record ");
-    io::print_decimal(STDOUT_FILENO, t.records);
-    io::write_all(STDOUT_FILENO, b" isn't whole, or of no kind known\n");
-    ended(t, false)
+pub(crate) fn cut<T: Print, R: Read + Drop>(
+    ends: &mut Ends<'_, T, R>,
+    t: Tape,
+) -> io::Result<Tape> {
+    let records = t.records;
+    println!(ends.rt; "replay: record {records} isn't whole, or of no kind known")?;
+    Ok(ended(t, false))
+}
+
+// Reads until the room is full or the input ends, over as many reads as that takes, and gives how many bytes came.
+fn read_full<R: Read>(input: &mut R, room: &mut [u8]) -> io::Result<usize>
+    ensures { IfOk result (λ n. n ≤ length room.old) }
+{
+    let mut n = 0usize;
+    while n < room.len() {
+        let more = input.read(&mut room[n..])?;
+        if more == 0 {
+            break;
+        }
+        n += more;
+    }
+    Ok(n)
 }
 
 // The next record, as its first eight numbers say; none after a difference or at the input's end.
-pub(crate) fn next(t: Tape) -> Tape {
+pub(crate) fn next<T: Print, R: Read + Drop>(
+    ends: &mut Ends<'_, T, R>,
+    t: Tape,
+) -> io::Result<Tape> {
     if !t.more {
-        return t;
+        return Ok(t);
     }
     let mut head = [0u8; 32];
-    let got = io::read_full(STDIN_FILENO, &mut head);
+    let got = read_full(&mut ends.input, &mut head)?;
     if got == 0 {
-        return ended(t, t.good);
+        return Ok(ended(t, t.good));
     }
     if got != 32 {
-        return cut(t);
+        return cut(ends, t);
     }
-    headed(t, &head)
+    Ok(headed(t, &head))
 }
 
 // The record that begins with these eight numbers, of which the last two are 0 in every kind.
 fn headed(t: Tape, head: &[u8]) -> Tape {
     Tape {
-        records: wrapping_add_u64(t.records, 1),
+        records: t.records.wrapping_add(1),
         numbers: t.numbers,
         good: t.good,
         more: true,
@@ -120,89 +147,115 @@ fn headed(t: Tape, head: &[u8]) -> Tape {
 }
 
 // Fills a row from the input. `bytes` is room for its bytes.
-pub(crate) fn fill(t: Tape, out: &mut [f32], bytes: &mut [u8]) -> Tape {
+pub(crate) fn fill<T: Print, R: Read + Drop>(
+    ends: &mut Ends<'_, T, R>,
+    t: Tape,
+    out: &mut [f32],
+    bytes: &mut [u8],
+) -> io::Result<Tape> {
     if !t.more {
-        return t;
+        return Ok(t);
     }
     let n = 4 * out.len();
     if bytes.len() < n {
-        return cut(t);
+        return cut(ends, t);
     }
-    let got = io::read_full(STDIN_FILENO, &mut bytes[0..n]);
+    let got = read_full(&mut ends.input, &mut bytes[0..n])?;
     if got != n {
-        return cut(t);
+        return cut(ends, t);
     }
     wire::decode(bytes, out);
-    t
+    Ok(t)
 }
 
 // Fills one row and then another.
-pub(crate) fn fill_two(t: Tape, one: &mut [f32], two: &mut [f32], bytes: &mut [u8]) -> Tape {
-    let u = fill(t, one, bytes);
-    fill(u, two, bytes)
+pub(crate) fn fill_two<T: Print, R: Read + Drop>(
+    ends: &mut Ends<'_, T, R>,
+    t: Tape,
+    one: &mut [f32],
+    two: &mut [f32],
+    bytes: &mut [u8],
+) -> io::Result<Tape> {
+    let u = fill(ends, t, one, bytes)?;
+    fill(ends, u, two, bytes)
 }
 
 // Says where the first difference is.
-fn say(t: Tape, field: &[u8], index: usize, ours: u64, theirs: u64) {
-    io::write_all(STDOUT_FILENO, b"replay: record ");
-    io::print_decimal(STDOUT_FILENO, t.records);
-    say_kind(t.kind);
-    io::write_all(STDOUT_FILENO, field);
-    io::write_all(STDOUT_FILENO, b" ");
-    io::print_decimal(STDOUT_FILENO, index as u64);
-    io::write_all(STDOUT_FILENO, b": ");
-    io::print_hex(STDOUT_FILENO, ours, 8);
-    io::write_all(STDOUT_FILENO, b" here, ");
-    io::print_hex(STDOUT_FILENO, theirs, 8);
-    io::write_all(STDOUT_FILENO, b" from the Rust\n");
+fn say(
+    rt: &impl Print,
+    t: Tape,
+    field: &str,
+    index: usize,
+    ours: u64,
+    theirs: u64,
+) -> io::Result<()> {
+    let records = t.records;
+    let call = call_of(t.kind);
+    println!(rt;
+        "replay: record {records}, {call}: {field} {index}: {ours:08x} here, {theirs:08x} from the Rust"
+    )
 }
 
-// Says which call a kind of record is of.
-fn say_kind(kind: u32) {
+// Which call a kind of record is of.
+fn call_of(kind: u32) -> &'static str {
     match kind {
-        1 => io::write_all(STDOUT_FILENO, b", fresh: "),
-        2 => io::write_all(STDOUT_FILENO, b", apply: "),
-        3 => io::write_all(STDOUT_FILENO, b", apply: "),
-        4 => io::write_all(STDOUT_FILENO, b", tail: "),
-        5 => io::write_all(STDOUT_FILENO, b", reset: "),
-        _ => io::write_all(STDOUT_FILENO, b", what is kept: "),
-    };
+        1 => "fresh",
+        2 => "apply",
+        3 => "apply",
+        4 => "tail",
+        5 => "reset",
+        _ => "what is kept",
+    }
 }
 
 // Compares one number, and ends the replay where it differs.
-pub(crate) fn same(t: Tape, field: &[u8], index: usize, ours: u64, theirs: u32) -> Tape {
+pub(crate) fn same(
+    rt: &impl Print,
+    t: Tape,
+    field: &str,
+    index: usize,
+    ours: u64,
+    theirs: u32,
+) -> io::Result<Tape> {
     if !t.more {
-        return t;
+        return Ok(t);
     }
     let mut u = t;
-    u.numbers = wrapping_add_u64(t.numbers, 1);
+    u.numbers = t.numbers.wrapping_add(1);
     if ours == theirs as u64 {
-        return u;
+        return Ok(u);
     }
-    say(t, field, index, ours, theirs as u64);
-    ended(u, false)
+    say(rt, t, field, index, ours, theirs as u64)?;
+    Ok(ended(u, false))
 }
 
 // Compares a ring's read and write cursor with the next two numbers of the input.
-pub(crate) fn same_cursors(t: Tape, ring: usize, c: Cursors) -> Tape {
+pub(crate) fn same_cursors<T: Print, R: Read + Drop>(
+    ends: &mut Ends<'_, T, R>,
+    t: Tape,
+    ring: usize,
+    c: Cursors,
+) -> io::Result<Tape> {
     if !t.more {
-        return t;
+        return Ok(t);
     }
     let mut both = [0u8; 8];
-    let got = io::read_full(STDIN_FILENO, &mut both);
+    let got = read_full(&mut ends.input, &mut both)?;
     if got != 8 {
-        return cut(t);
+        return cut(ends, t);
     }
     let u = same(
+        ends.rt,
         t,
-        b"read cursor of ring",
+        "read cursor of ring",
         ring,
         c.read.0 as u64,
         word(&both, 0),
-    );
+    )?;
     same(
+        ends.rt,
         u,
-        b"write cursor of ring",
+        "write cursor of ring",
         ring,
         c.write.0 as u64,
         word(&both, 1),
@@ -220,35 +273,50 @@ fn first_difference(row: &[f32], bytes: &[u8]) -> usize {
 }
 
 // Compares a row with the next numbers of the input. `at` is what its first float is called.
-pub(crate) fn same_row(t: Tape, field: &[u8], at: usize, row: &[f32], bytes: &mut [u8]) -> Tape {
+pub(crate) fn same_row<T: Print, R: Read + Drop>(
+    ends: &mut Ends<'_, T, R>,
+    t: Tape,
+    field: &str,
+    at: usize,
+    row: &[f32],
+    bytes: &mut [u8],
+) -> io::Result<Tape> {
     if !t.more {
-        return t;
+        return Ok(t);
     }
     let n = 4 * row.len();
     if bytes.len() < n {
-        return cut(t);
+        return cut(ends, t);
     }
-    let got = io::read_full(STDIN_FILENO, &mut bytes[0..n]);
+    let got = read_full(&mut ends.input, &mut bytes[0..n])?;
     if got != n {
-        return cut(t);
+        return cut(ends, t);
     }
-    judged(t, field, at, row, bytes)
+    judged(ends.rt, t, field, at, row, bytes)
 }
 
 // Compares a row with the numbers that were read for it.
-fn judged(t: Tape, field: &[u8], at: usize, row: &[f32], bytes: &[u8]) -> Tape {
+fn judged(
+    rt: &impl Print,
+    t: Tape,
+    field: &str,
+    at: usize,
+    row: &[f32],
+    bytes: &[u8],
+) -> io::Result<Tape> {
     let mut u = t;
-    u.numbers = wrapping_add_u64(t.numbers, row.len() as u64);
+    u.numbers = t.numbers.wrapping_add(row.len() as u64);
     let i = first_difference(row, bytes);
     if i < row.len() {
         say(
+            rt,
             t,
             field,
-            wrapping_add_usize(at, i),
+            at.wrapping_add(i),
             wire::bits(row[i]) as u64,
             word(bytes, i) as u64,
-        );
-        return ended(u, false);
+        )?;
+        return Ok(ended(u, false));
     }
-    u
+    Ok(u)
 }

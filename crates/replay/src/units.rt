@@ -1,9 +1,11 @@
 // Units from fresh on: their calls, and what they keep in the end.
 use crate::kept::{same_filters, same_rings};
-use crate::tape::{Tape, fill, fill_two, next, same, same_row};
+use crate::tape::{Ends, Tape, fill, fill_two, next, same, same_row};
 use audio_buffer::AudioEffectState;
 use bands::Times;
 use samples::Frames;
+use std::io;
+use std::io::Read;
 use unit::{ALLPASS_FLOATS, COEFFICIENTS, DELAYS_AND_RINGS, LINES, Outcome, ROWS, State};
 
 // A unit on its way, and where the replay is.
@@ -14,9 +16,14 @@ struct Going {
 }
 
 // A unit of the frame that its record says, on memory of that frame's lengths.
-pub(crate) fn unit(t: Tape, bytes: &mut [u8]) -> Tape {
+pub(crate) fn unit<T: Print, R: Read + Drop>(
+    ends: &mut Ends<'_, T, R>,
+    t: Tape,
+    bytes: &mut [u8],
+) -> io::Result<Tape> {
     if t.b == 4 {
         return live(
+            ends,
             t,
             &mut [0.0f32; 4],
             &mut [0.0f32; DELAYS_AND_RINGS + LINES * 4],
@@ -27,6 +34,7 @@ pub(crate) fn unit(t: Tape, bytes: &mut [u8]) -> Tape {
     }
     if t.b == 12 {
         return live(
+            ends,
             t,
             &mut [0.0f32; 12],
             &mut [0.0f32; DELAYS_AND_RINGS + LINES * 12],
@@ -37,6 +45,7 @@ pub(crate) fn unit(t: Tape, bytes: &mut [u8]) -> Tape {
     }
     if t.b == 128 {
         return live(
+            ends,
             t,
             &mut [0.0f32; 128],
             &mut [0.0f32; DELAYS_AND_RINGS + LINES * 128],
@@ -46,6 +55,7 @@ pub(crate) fn unit(t: Tape, bytes: &mut [u8]) -> Tape {
         );
     }
     live(
+        ends,
         t,
         &mut [0.0f32; 1024],
         &mut [0.0f32; DELAYS_AND_RINGS + LINES * 1024],
@@ -56,54 +66,56 @@ pub(crate) fn unit(t: Tape, bytes: &mut [u8]) -> Tape {
 }
 
 // A unit's life, from the fresh unit to the record of what it keeps.
-fn live(
+fn live<T: Print, R: Read + Drop>(
+    ends: &mut Ends<'_, T, R>,
     t: Tape,
     input: &mut [f32],
     store: &mut [f32],
     work: &mut [f32],
     output: &mut [f32],
     bytes: &mut [u8],
-) -> Tape {
-    let g = begin(t, store);
-    play(g, input, store, work, output, bytes)
+) -> io::Result<Tape> {
+    let g = begin(ends.rt, t, store)?;
+    play(ends, g, input, store, work, output, bytes)
 }
 
 // The fresh unit.
-fn begin(t: Tape, store: &mut [f32]) -> Going {
+fn begin(rt: &impl Print, t: Tape, store: &mut [f32]) -> io::Result<Going> {
     let a = reverb::fresh(t.a, t.b as usize, store);
     let answer = a.answer;
     let state = a.state;
-    let u = same(t, b"answer", 0, samples::number(answer) as u64, 0);
-    let tape = same(u, b"count", 0, pattern(state.count), t.c);
-    Going { state, tape }
+    let u = same(rt, t, "answer", 0, samples::number(answer) as u64, 0)?;
+    let tape = same(rt, u, "count", 0, pattern(state.count), t.c)?;
+    Ok(Going { state, tape })
 }
 
 // Its calls one after another.
-fn play(
+fn play<T: Print, R: Read + Drop>(
+    ends: &mut Ends<'_, T, R>,
     g: Going,
     input: &mut [f32],
     store: &mut [f32],
     work: &mut [f32],
     output: &mut [f32],
     bytes: &mut [u8],
-) -> Tape {
+) -> io::Result<Tape> {
     let mut cs = [0.0f32; COEFFICIENTS];
     let mut going = g;
     let mut turns = u64::MAX;
     while turns > 0 {
-        going = step(going, &mut cs, input, store, work, output, bytes);
+        going = step(ends, going, &mut cs, input, store, work, output, bytes)?;
         let t = going.tape;
-        if ends(t) {
-            return t;
+        if is_over(t) {
+            return Ok(t);
         }
         turns -= 1;
     }
     let end = going.tape;
-    end
+    Ok(end)
 }
 
 // Whether a unit's life is over.
-fn ends(t: Tape) -> bool {
+fn is_over(t: Tape) -> bool {
     if t.more {
         return t.kind == crate::tape::KEPT;
     }
@@ -111,7 +123,8 @@ fn ends(t: Tape) -> bool {
 }
 
 // The next record.
-fn step(
+fn step<T: Print, R: Read + Drop>(
+    ends: &mut Ends<'_, T, R>,
     g: Going,
     cs: &mut [f32],
     input: &mut [f32],
@@ -119,15 +132,26 @@ fn step(
     work: &mut [f32],
     output: &mut [f32],
     bytes: &mut [u8],
-) -> Going {
+) -> io::Result<Going> {
     let state = g.state;
     let t = g.tape;
-    let tape = given(next(t), cs, input, bytes);
-    done(Going { state, tape }, cs, input, store, work, output, bytes)
+    let u = next(ends, t)?;
+    let tape = given(ends, u, cs, input, bytes)?;
+    done(
+        ends,
+        Going { state, tape },
+        cs,
+        input,
+        store,
+        work,
+        output,
+        bytes,
+    )
 }
 
 // Does what the record says.
-fn done(
+fn done<T: Print, R: Read + Drop>(
+    ends: &mut Ends<'_, T, R>,
     g: Going,
     cs: &[f32],
     input: &[f32],
@@ -135,27 +159,33 @@ fn done(
     work: &mut [f32],
     output: &mut [f32],
     bytes: &mut [u8],
-) -> Going {
+) -> io::Result<Going> {
     let t = g.tape;
-    if ends(t) {
-        return kept(g, store, bytes);
+    if is_over(t) {
+        return kept(ends, g, store, bytes);
     }
     let s = g.state;
     let a = call(t, s, cs, input, store, work, output);
     let state = a.state;
-    let tape = answered(t, a, output, bytes);
-    Going { state, tape }
+    let tape = answered(ends, t, a, output, bytes)?;
+    Ok(Going { state, tape })
 }
 
 // Reads what a call is given: an apply its input, and where they are new its coefficients.
-fn given(t: Tape, cs: &mut [f32], input: &mut [f32], bytes: &mut [u8]) -> Tape {
+fn given<T: Print, R: Read + Drop>(
+    ends: &mut Ends<'_, T, R>,
+    t: Tape,
+    cs: &mut [f32],
+    input: &mut [f32],
+    bytes: &mut [u8],
+) -> io::Result<Tape> {
     if t.kind == crate::tape::APPLY_NEW {
-        return fill_two(t, cs, input, bytes);
+        return fill_two(ends, t, cs, input, bytes);
     }
     if t.kind == crate::tape::APPLY {
-        return fill(t, input, bytes);
+        return fill(ends, t, input, bytes);
     }
-    t
+    Ok(t)
 }
 
 // The times of an apply.
@@ -187,17 +217,23 @@ fn call(
 }
 
 // Compares what a call answered: a reset has neither verdict nor output.
-fn answered(t: Tape, a: Outcome, output: &[f32], bytes: &mut [u8]) -> Tape {
+fn answered<T: Print, R: Read + Drop>(
+    ends: &mut Ends<'_, T, R>,
+    t: Tape,
+    a: Outcome,
+    output: &[f32],
+    bytes: &mut [u8],
+) -> io::Result<Tape> {
     let answer = a.answer;
     let verdict = a.verdict;
     let state = a.state;
-    let u = same(t, b"answer", 0, samples::number(answer) as u64, 0);
-    let v = same(u, b"count", 0, pattern(state.count), t.a);
+    let u = same(ends.rt, t, "answer", 0, samples::number(answer) as u64, 0)?;
+    let v = same(ends.rt, u, "count", 0, pattern(state.count), t.a)?;
     if t.kind == crate::tape::RESET {
-        return v;
+        return Ok(v);
     }
-    let w = same(v, b"verdict", 0, remaining(verdict), t.b);
-    same_row(w, b"output", 0, output, bytes)
+    let w = same(ends.rt, v, "verdict", 0, remaining(verdict), t.b)?;
+    same_row(ends, w, "output", 0, output, bytes)
 }
 
 // A verdict as the records have it.
@@ -218,14 +254,19 @@ fn pattern(count: Frames) -> u64 {
 }
 
 // Compares all that a unit keeps.
-fn kept(g: Going, store: &[f32], bytes: &mut [u8]) -> Going {
+fn kept<T: Print, R: Read + Drop>(
+    ends: &mut Ends<'_, T, R>,
+    g: Going,
+    store: &[f32],
+    bytes: &mut [u8],
+) -> io::Result<Going> {
     let t = g.tape;
     let state = g.state;
     let lines = state.lines;
     let passes = state.passes;
     let filters = state.filters;
-    let u = same_rings(t, lines, passes);
-    let v = same_filters(u, filters, bytes);
-    let tape = same_row(v, b"store", 0, store, bytes);
-    Going { state, tape }
+    let u = same_rings(ends, t, lines, passes)?;
+    let v = same_filters(ends, u, filters, bytes)?;
+    let tape = same_row(ends, v, "store", 0, store, bytes)?;
+    Ok(Going { state, tape })
 }
