@@ -3,6 +3,7 @@
 // A function here is the call that it stands for, with that call's contract. `specs/` says how an
 // answer looks to C.
 #![tactic(auto)]
+
 mod answers;
 mod buffers;
 mod delays;

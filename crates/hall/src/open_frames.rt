@@ -12,8 +12,7 @@ use bands::Times;
 use unit::State;
 
 // Begins a frame of input, to be done as jobs (R2.24, R5.6 to R5.8).
-#[unsafe(no_mangle)]
-pub extern "C" fn hall_open_apply(
+pub fn hall_open_apply(
     s: State,
     t0: f32,
     t1: f32,
@@ -35,8 +34,7 @@ pub extern "C" fn hall_open_apply(
 }
 
 // Begins a frame after the input has ended, to be done as jobs (R2.25, R5.6 to R5.8).
-#[unsafe(no_mangle)]
-pub extern "C" fn hall_open_tail(s: State, store: &[f32], work: &mut [f32]) -> HallAnswer
+pub fn hall_open_tail(s: State, store: &[f32], work: &mut [f32]) -> HallAnswer
     ensures value { result ≡ faced (outcome_of (opened wall (lend s store.now work.old) Play.tail)) }
     ensures work_after { work.new ≡ (opened wall (lend s store.now work.old) Play.tail).memory.work }
 {
@@ -44,13 +42,7 @@ pub extern "C" fn hall_open_tail(s: State, store: &[f32], work: &mut [f32]) -> H
 }
 
 // Reads a frame of a line (R2.26, R5.11).
-#[unsafe(no_mangle)]
-pub extern "C" fn hall_job_read(
-    s: State,
-    line: usize,
-    store: &[f32],
-    work: &mut [f32],
-) -> HallAnswer
+pub fn hall_job_read(s: State, line: usize, store: &[f32], work: &mut [f32]) -> HallAnswer
     ensures value { result ≡ faced (outcome_of (done wall (lend s store.now work.old) (read_job line))) }
     ensures work_after { work.new ≡ (done wall (lend s store.now work.old) (read_job line)).memory.work }
 {
@@ -58,8 +50,7 @@ pub extern "C" fn hall_job_read(
 }
 
 // Mixes the lines read (R2.27, R5.12).
-#[unsafe(no_mangle)]
-pub extern "C" fn hall_job_mix(s: State, work: &mut [f32]) -> HallAnswer
+pub fn hall_job_mix(s: State, work: &mut [f32]) -> HallAnswer
     ensures value { result ≡ faced (outcome_of (done wall (lend s [] work.old) mix_job)) }
     ensures work_after { work.new ≡ (done wall (lend s [] work.old) mix_job).memory.work }
 {
@@ -67,8 +58,7 @@ pub extern "C" fn hall_job_mix(s: State, work: &mut [f32]) -> HallAnswer
 }
 
 // Sends a line mixed through its bands, and adds the input to it unless in a tail (R2.28, R5.13).
-#[unsafe(no_mangle)]
-pub extern "C" fn hall_job_line(s: State, line: usize, work: &mut [f32]) -> HallAnswer
+pub fn hall_job_line(s: State, line: usize, work: &mut [f32]) -> HallAnswer
     ensures value { result ≡ faced (outcome_of (done wall (lend s [] work.old) (line_job line))) }
     ensures work_after { work.new ≡ (done wall (lend s [] work.old) (line_job line)).memory.work }
 {
@@ -76,8 +66,7 @@ pub extern "C" fn hall_job_line(s: State, line: usize, work: &mut [f32]) -> Hall
 }
 
 // Makes the output of the lines read (R2.29, R5.14).
-#[unsafe(no_mangle)]
-pub extern "C" fn hall_job_output(s: State, work: &mut [f32]) -> HallAnswer
+pub fn hall_job_output(s: State, work: &mut [f32]) -> HallAnswer
     ensures value { result ≡ faced (outcome_of (done wall (lend s [] work.old) output_job)) }
     ensures work_after { work.new ≡ (done wall (lend s [] work.old) output_job).memory.work }
 {
@@ -86,13 +75,7 @@ pub extern "C" fn hall_job_output(s: State, work: &mut [f32]) -> HallAnswer
 
 // Ends a frame of which every job is done: puts its rows into the lines, writes the output, moves the
 // cursors and sets the count, unless a number of it isn't finite (R2.30, R5.20 to R5.27).
-#[unsafe(no_mangle)]
-pub extern "C" fn hall_close(
-    s: State,
-    store: &mut [f32],
-    work: &mut [f32],
-    output: &mut [f32],
-) -> HallAnswer
+pub fn hall_close(s: State, store: &mut [f32], work: &mut [f32], output: &mut [f32]) -> HallAnswer
     ensures value { result ≡ faced (outcome_of (closed wall (lend s store.old work.old) output.old)) }
     ensures store_after { store.new ≡ (closed wall (lend s store.old work.old) output.old).memory.store }
     ensures work_after { work.new ≡ (closed wall (lend s store.old work.old) output.old).memory.work }
@@ -102,8 +85,7 @@ pub extern "C" fn hall_close(
 }
 
 // Gives an open frame up: the unit is as it was before, and the work memory is cleared (R2.31, R5.28).
-#[unsafe(no_mangle)]
-pub extern "C" fn hall_abandon(s: State, work: &mut [f32]) -> HallAnswer
+pub fn hall_abandon(s: State, work: &mut [f32]) -> HallAnswer
     ensures value { result ≡ faced (outcome_of (abandoned wall (lend s [] work.old))) }
     ensures work_after { work.new ≡ (abandoned wall (lend s [] work.old)).memory.work }
 {

@@ -8,8 +8,7 @@ use crate::{HallFourAnswer, HallRingAnswer};
 use delay::{Cursors, Four};
 
 // Reads as many samples as `out` takes, and moves the read cursor past them (R3.8).
-#[unsafe(no_mangle)]
-pub extern "C" fn hall_ring_get(ring: &[f32], c: Cursors, out: &mut [f32]) -> HallRingAnswer
+pub fn hall_ring_get(ring: &[f32], c: Cursors, out: &mut [f32]) -> HallRingAnswer
     ensures value { result ≡ faced_ring (get_answer (length ring.now) c (length out.old)) }
     ensures out_after { out.new ≡ get_out ring.now c out.old }
 {
@@ -17,8 +16,7 @@ pub extern "C" fn hall_ring_get(ring: &[f32], c: Cursors, out: &mut [f32]) -> Ha
 }
 
 // Writes the samples `xs`, and moves the write cursor past them (R3.9).
-#[unsafe(no_mangle)]
-pub extern "C" fn hall_ring_put(ring: &mut [f32], c: Cursors, xs: &[f32]) -> HallRingAnswer
+pub fn hall_ring_put(ring: &mut [f32], c: Cursors, xs: &[f32]) -> HallRingAnswer
     ensures value { result ≡ faced_ring (put_answer (length ring.old) c (length xs.now)) }
     ensures ring_after { ring.new ≡ put_ring ring.old c xs.now }
 {
@@ -26,16 +24,14 @@ pub extern "C" fn hall_ring_put(ring: &mut [f32], c: Cursors, xs: &[f32]) -> Hal
 }
 
 // Reads four samples one after the other, and moves the read cursor past them (R3.11).
-#[unsafe(no_mangle)]
-pub extern "C" fn hall_ring_get4(ring: &[f32], c: Cursors) -> HallFourAnswer
+pub fn hall_ring_get4(ring: &[f32], c: Cursors) -> HallFourAnswer
     ensures { result ≡ faced_four (get4_answer ring.now c) }
 {
     faced_four(delay::get4(ring, c))
 }
 
 // Writes four samples one after the other, and moves the write cursor past them (R3.12).
-#[unsafe(no_mangle)]
-pub extern "C" fn hall_ring_put4(
+pub fn hall_ring_put4(
     ring: &mut [f32],
     c: Cursors,
     x0: f32,
@@ -50,8 +46,7 @@ pub extern "C" fn hall_ring_put4(
 }
 
 // Silences a ring and leaves its cursors where they are (R3.18).
-#[unsafe(no_mangle)]
-pub extern "C" fn hall_ring_reset(ring: &mut [f32], c: Cursors) -> HallRingAnswer
+pub fn hall_ring_reset(ring: &mut [f32], c: Cursors) -> HallRingAnswer
     ensures value { result ≡ faced_ring (reset_answer (length ring.old) c) }
     ensures ring_after { ring.new ≡ reset_ring ring.old c }
 {

@@ -8,8 +8,7 @@ use iir::Filter;
 use samples::number;
 
 // Filters a row in place, and gives the filter after it (R3.24).
-#[unsafe(no_mangle)]
-pub extern "C" fn hall_filter_run(f: Filter, xs: &mut [f32]) -> Filter
+pub fn hall_filter_run(f: Filter, xs: &mut [f32]) -> Filter
     ensures value { result ≡ run_end f xs.old }
     ensures xs_after { xs.new ≡ run_out f xs.old }
 {
@@ -17,8 +16,7 @@ pub extern "C" fn hall_filter_run(f: Filter, xs: &mut [f32]) -> Filter
 }
 
 // Mixes one sample of each of sixteen lines (R3.29).
-#[unsafe(no_mangle)]
-pub extern "C" fn hall_mix16(x: &[f32], y: &mut [f32]) -> u32
+pub fn hall_mix16(x: &[f32], y: &mut [f32]) -> u32
     ensures value { result ≡ number_of (judged_sample (length x.now) (length y.old)) }
     ensures y_after { y.new ≡ accept (judged_sample (length x.now) (length y.old)) (mixed width quarter x.now) y.old }
 {

@@ -8,16 +8,14 @@ use crate::HallWave;
 use crate::answers::faced_wave;
 
 // Reads a RIFF/WAVE file (R11.14).
-#[unsafe(no_mangle)]
-pub extern "C" fn hall_wave_read(file: &[u8]) -> HallWave
+pub fn hall_wave_read(file: &[u8]) -> HallWave
     ensures { result ≡ faced_wave (reading file.now) }
 {
     faced_wave(wave::read(file))
 }
 
 // Fills `out` with the floats of a take's bytes (R11.13).
-#[unsafe(no_mangle)]
-pub extern "C" fn hall_wave_samples(bytes: &[u8], tag: u32, out: &mut [f32])
+pub fn hall_wave_samples(bytes: &[u8], tag: u32, out: &mut [f32])
     ensures { out.new ≡ floats_of tag (length out.old) bytes.now }
 {
     wave::floats(bytes, tag, out)

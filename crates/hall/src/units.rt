@@ -13,8 +13,7 @@ use bands::Times;
 use unit::State;
 
 // A unit in which nothing has sounded yet, and its store cleared (R2.20, R4.24).
-#[unsafe(no_mangle)]
-pub extern "C" fn hall_fresh(rate: u32, frame: usize, store: &mut [f32]) -> HallAnswer
+pub fn hall_fresh(rate: u32, frame: usize, store: &mut [f32]) -> HallAnswer
     ensures value { result ≡ faced (outcome_of (begun wall rate frame store.old)) }
     ensures store_after { store.new ≡ (begun wall rate frame store.old).memory.store }
 {
@@ -23,8 +22,7 @@ pub extern "C" fn hall_fresh(rate: u32, frame: usize, store: &mut [f32]) -> Hall
 
 // Silences the unit: its store is cleared and no tail is left. Cursors and filters
 // stay (R2.21, R4.25).
-#[unsafe(no_mangle)]
-pub extern "C" fn hall_reset(s: State, store: &mut [f32]) -> HallAnswer
+pub fn hall_reset(s: State, store: &mut [f32]) -> HallAnswer
     ensures value { result ≡ faced (outcome_of (silenced wall (lend s store.old []))) }
     ensures store_after { store.new ≡ (silenced wall (lend s store.old [])).memory.store }
 {
@@ -33,8 +31,7 @@ pub extern "C" fn hall_reset(s: State, store: &mut [f32]) -> HallAnswer
 
 // A frame of input: the lines sound through filters of the given coefficients, the input is added to
 // each, and the tail that is to come is counted by the times (R2.22, R4).
-#[unsafe(no_mangle)]
-pub extern "C" fn hall_apply(
+pub fn hall_apply(
     s: State,
     t0: f32,
     t1: f32,
@@ -60,8 +57,7 @@ pub extern "C" fn hall_apply(
 
 // Up to 1,024 frames of input, as the same applies made singly, with one set of times and coefficients. It
 // stops at the first frame that is refused, and says how many were done (R10).
-#[unsafe(no_mangle)]
-pub extern "C" fn hall_apply_frames(
+pub fn hall_apply_frames(
     s: State,
     t0: f32,
     t1: f32,
@@ -87,13 +83,7 @@ pub extern "C" fn hall_apply_frames(
 
 // A frame after the input has ended: the lines go on sounding through the filters kept, and one frame
 // less is to come (R2.23, R4).
-#[unsafe(no_mangle)]
-pub extern "C" fn hall_tail(
-    s: State,
-    store: &mut [f32],
-    work: &mut [f32],
-    output: &mut [f32],
-) -> HallAnswer
+pub fn hall_tail(s: State, store: &mut [f32], work: &mut [f32], output: &mut [f32]) -> HallAnswer
     ensures value { result ≡ faced (outcome_of (at_once wall (lend s store.old work.old) Play.tail output.old)) }
     ensures store_after { store.new ≡ (at_once wall (lend s store.old work.old) Play.tail output.old).memory.store }
     ensures work_after { work.new ≡ (at_once wall (lend s store.old work.old) Play.tail output.old).memory.work }
