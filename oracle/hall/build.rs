@@ -1,4 +1,4 @@
-//! Finds the static library: $HALL_LIB, else target/staticlib/libhall.a of the repository. Where it is this machine's
+//! Finds the static library: $HALL_LIB, else target/x86-64/libhall.a of the repository. Where it is this machine's
 //! code it is linked. Else it is made into a player, a program of its own that is run under an emulator.
 
 use std::path::{Path, PathBuf};
@@ -22,9 +22,9 @@ fn main() {
 fn library() -> PathBuf {
     let named = match env::var_os("HALL_LIB") {
         Some(given) => PathBuf::from(given),
-        None => Path::new(env!("CARGO_MANIFEST_DIR")).join("../../target/staticlib/libhall.a"),
+        None => Path::new(env!("CARGO_MANIFEST_DIR")).join("../../target/x86-64/libhall.a"),
     };
-    let hint = "Make it by `rt staticlib hall`, or set HALL_LIB.";
+    let hint = "Make it by `./build x86-64`, or set HALL_LIB.";
     named
         .canonicalize()
         .unwrap_or_else(|e| panic!("{}: {e}. {hint}", named.display()))
