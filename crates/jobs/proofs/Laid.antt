@@ -17,7 +17,6 @@ use Rattle.samples.proofs.Turns.{middle}
 use Rattle.samples.proofs.Lists.{part_long}
 use Rattle.hadamard.specs.Rows.{judged_rows, rows_mixed, mixed_rows}
 use Rattle.hadamard.proofs.Laws.{rows_accepted, rows_joined}
-use Rattle.delay.specs.Calls.{both}
 use Rattle.iir.specs.declared.Filter.{Filter}
 use Rattle.unit.specs.UnitState.{UnitState}
 use Rattle.unit.specs.Layout.{wall, lengths, store_len}

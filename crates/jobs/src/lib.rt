@@ -2,6 +2,7 @@
 //
 // Its contracts cite the machine: how each job ends.
 #![tactic(auto)]
+
 mod steps;
 
 ghost use Rattle.std.specs.Prelude.{◌≡◌, []};
