@@ -2,6 +2,7 @@
 //
 // Its contracts cite the machine: how an open ends.
 #![tactic(auto)]
+
 mod begin;
 
 ghost use Rattle.std.specs.Prelude.{◌≡◌};
