@@ -13,7 +13,6 @@ use Rattle.unit.specs.Layout.{wall}
 use Rattle.stages.specs.Frame.{Frame, new_filters}
 use Rattle.stages.specs.Settle.{frame_finite, nine_of}
 use Rattle.machine.specs.Ending.{Ending}
-use Rattle.machine.specs.Whole as Play
 use Rattle.machine.specs.Whole.{Play, whole_due, frame_for, count_for, moved_on, played}
 use Rattle.shell.specs.Settings.{frame, store_floats, work_floats}
 use Rattle.shell.specs.Frames.{input_play, play_ends}

@@ -15,7 +15,6 @@ use Rattle.unit.specs.Range.{below, cursors_in, unmarked, blank_filters, blank_o
 use Rattle.judges.specs.Judges.{judged}
 use Rattle.stages.specs.Frame.{new_filters}
 use Rattle.stages.proofs.Within.{cursors_moved}
-use Rattle.machine.specs.Whole as Play
 use Rattle.machine.specs.Whole.{Play, frame_for, count_for, moved_on}
 use Rattle.shell.specs.Settings.{frame, rate}
 use Rattle.shell.specs.Frames.{input_play, tail_due, play_ends, input_ends, tail_ends}

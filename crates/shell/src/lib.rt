@@ -3,6 +3,7 @@
 // Its contracts cite `specs/`: how a frame of input and a frame of the tail end, the bytes written, and
 // the settings.
 #![tactic(auto)]
+
 mod settings;
 
 ghost use Rattle.std.specs.Prelude.{◌≡◌, length};

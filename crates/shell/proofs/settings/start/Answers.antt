@@ -1,5 +1,4 @@
 -- `shell::settings::start` meets its contract: on a store of its length a fresh unit is accepted. Assumes nothing.
-use borrow.Author.Rules.{rules}
 use native.Mathlib.Omega.{arith}
 use mathlib.Core.Path.{◌≡◌, refl}
 use lib.ListN.{length}
@@ -10,17 +9,13 @@ use Rattle.unit.specs.Fresh.{fresh_unit}
 use Rattle.unit.proofs.Laws.{store_is}
 use Rattle.judges.specs.Judges.{judged_fresh}
 use Rattle.shell.specs.Settings.{frame, rate, store_floats}
-use Rattle.shell.proofs.settings.start.Statement.{statement}
-use Rattle.shell.proofs.settings.start.Tie as tie
+use Rattle.shell.proofs.settings.start.Goals as goal
 
-fresh-accepted : judged_fresh wall rate frame store_floats ≡ Accepted
+fresh_accepted : judged_fresh wall rate frame store_floats ≡ Accepted
 unfolding judged_fresh rate_ok frame_ok store_len total lengths_from
-fresh-accepted = refl
+fresh_accepted = refl
 
-returns : tie.Need-returns
+pub returns : goal.returns
 returns c =
-    let m : length c.before.before.args.store.now ≡ store_floats = omega (arith, store_is (fresh_unit wall rate frame)) in
-    rw (m, fresh-accepted) at c.fresh.ensures
-
-pub start_spec : {M : Type 1} → statement M
-start_spec = tie.close (tie.spec (λ c κs. search rules) returns)
+    let m : length c.args.store.now ≡ store_floats = omega (arith, store_is (fresh_unit wall rate frame)) in
+    record { value = rw (m, fresh_accepted) at c.fresh.ensures.value; store_after = rw (m, fresh_accepted) at c.fresh.ensures.store_after }
