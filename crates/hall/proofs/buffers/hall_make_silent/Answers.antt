@@ -1,8 +1,0 @@
--- `hall::buffers::hall_make_silent` meets its contract. Assumes nothing.
-use mathlib.Core.Path.{ap, ◌∙◌}
-use Rattle.samples.specs.Answers.{number_of}
-use Rattle.hall.proofs.buffers.hall_make_silent.Goals as goal
-
-pub returns : goal.returns
-returns c =
-    let called = c.make_silent.ensures in record { value = c.number.ensures ∙ ap number_of called.value; buffer_after = called.buffer_after }

@@ -1,7 +1,0 @@
--- `hall::delays::hall_delay_min` meets its contract. Assumes nothing.
-use mathlib.Core.Path.{ap, ◌∙◌}
-use Rattle.hall.specs.Face.{faced_value}
-use Rattle.hall.proofs.delays.hall_delay_min.Goals as goal
-
-pub returns : goal.returns
-returns c = c.faced_value.ensures ∙ ap faced_value c.delay_min.ensures

@@ -1,8 +1,0 @@
--- `hall::units::hall_reset` meets its contract. Assumes nothing.
-use mathlib.Core.Path.{ap, ◌∙◌}
-use Rattle.hall.specs.Face.{faced}
-use Rattle.hall.proofs.units.hall_reset.Goals as goal
-
-pub returns : goal.returns
-returns c =
-    let called = c.reset.ensures in record { value = c.faced.ensures ∙ ap faced called.value; store_after = called.store_after }
