@@ -97,15 +97,15 @@ module _ (f : ℕ) (ls : List ℕ) where
         let e = first_long store n j r in
         length-write (take (get_or ls j 0) store) (take f rows) (get_or cs j (both 0)).write.0 (simp length-take (omega (arith, r.0))) ∙ e
 
-    read-row_from : (n j i : ℕ) (store : List Float) → i < n → Held f n j ls (length store)
+    read_row_from : (n j i : ℕ) (store : List Float) → i < n → Held f n j ls (length store)
         → row f i (read_rows f n j ls cs store) ≡ read (ring_at ls j i store) (get_or cs (j + i) (both 0)).read.0 f
     unfolding read_rows
-    read-row_from zero j i store h r = absurd (not-suc-le-zero h)
-    read-row_from (suc n) j zero store h r =
+    read_row_from zero j i store h r = absurd (not-suc-le-zero h)
+    read_row_from (suc n) j zero store h r =
         rw (add-zero, take_at _ _ f (first_read n j store r)) refl
-    read-row_from (suc n) j (suc i) store h r =
+    read_row_from (suc n) j (suc i) store h r =
         rw (on j i, drop_at _ _ f (first_read n j store r))
-        (read-row_from n (j + 1) i (drop (get_or ls j 0) store) (omega arith) (rest_held store n j r))
+        (read_row_from n (j + 1) i (drop (get_or ls j 0) store) (omega arith) (rest_held store n j r))
 
     put_row_from : (n j i : ℕ) (rows rings store : List Float) → i < n → Held f n j ls (length store)
         → ring_at ls j i (put_rows f n j ls cs rows rings store) ≡ write (ring_at ls j i store) (get_or cs (j + i) (both 0)).write.0 (row f i rows)
@@ -120,7 +120,7 @@ module _ (f : ℕ) (ls : List ℕ) where
     pub read-row : (n i : ℕ) (store : List Float) → i < n → Held f n 0 ls (length store)
         → row f i (read_rows f n 0 ls cs store) ≡ read (stretch ls i store) (get_or cs i (both 0)).read.0 f
     read-row n i store h r =
-        (rw zero-add at (read-row_from n 0 i store h r)) ∙ ap (λ (x : List Float). read x (get_or cs i (both 0)).read.0 f) (ring_at_lem ls i store)
+        (rw zero-add at (read_row_from n 0 i store h r)) ∙ ap (λ (x : List Float). read x (get_or cs i (both 0)).read.0 f) (ring_at_lem ls i store)
 
     pub put_row : (n i : ℕ) (rows rings store : List Float) → i < n → Held f n 0 ls (length store)
         → stretch ls i (put_rows f n 0 ls cs rows rings store) ≡ write (stretch ls i store) (get_or cs i (both 0)).write.0 (row f i rows)

@@ -27,15 +27,15 @@ kept a b new old e q h = e ∙ accept_no b new old (sym (ap accepted q) ∙ h)
 pub parts_unchanged : PartsUnchanged
 parts_unchanged = record {
   delay = record {
-    fresh_ring_lem = λ κs a x s p h. kept x.answer (judged_length (length a.0.now)) (replicate (length a.0.now) +0) a.0.now p.1 (ap (λ (r : RingAnswer). r.answer) p.0) h;
-    reset_ring_lem = λ κs a x s p h. kept x.answer (judged_ring (length a.0.now) a.1.0) (replicate (length a.0.now) +0) a.0.now p.1 (ap (λ (r : RingAnswer). r.answer) p.0) h;
+    fresh_ring = λ κs a x s p h. kept x.answer (judged_length (length a.0.now)) (replicate (length a.0.now) +0) a.0.now p.1 (ap (λ (r : RingAnswer). r.answer) p.0) h;
+    reset_ring = λ κs a x s p h. kept x.answer (judged_ring (length a.0.now) a.1.0) (replicate (length a.0.now) +0) a.0.now p.1 (ap (λ (r : RingAnswer). r.answer) p.0) h;
     reset_cursors = λ κs a x s p h. ap (λ (r : RingAnswer). r.cursors) p.0;
-    get_out_lem = λ κs a x s p h. kept x.answer (judged_count (length a.0.now) a.1.0 (length a.1.1.0.now)) (read a.0.now a.1.0.read.0 (length a.1.1.0.now)) a.1.1.0.now p.1 (ap (λ (r : RingAnswer). r.answer) p.0) h;
+    get_out = λ κs a x s p h. kept x.answer (judged_count (length a.0.now) a.1.0 (length a.1.1.0.now)) (read a.0.now a.1.0.read.0 (length a.1.1.0.now)) a.1.1.0.now p.1 (ap (λ (r : RingAnswer). r.answer) p.0) h;
     get_cursors = λ κs a x s p h. kept x.answer (judged_count (length a.0.now) a.1.0 (length a.1.1.0.now)) (read_to a.1.0 (wrap (length a.0.now) (a.1.0.read.0 + length a.1.1.0.now))) a.1.0 (ap (λ (r : RingAnswer). r.cursors) p.0) (ap (λ (r : RingAnswer). r.answer) p.0) h;
-    put_ring_lem = λ κs a x s p h. kept x.answer (judged_count (length a.0.now) a.1.0 (length a.1.1.0.now)) (write a.0.now a.1.0.write.0 a.1.1.0.now) a.0.now p.1 (ap (λ (r : RingAnswer). r.answer) p.0) h;
+    put_ring = λ κs a x s p h. kept x.answer (judged_count (length a.0.now) a.1.0 (length a.1.1.0.now)) (write a.0.now a.1.0.write.0 a.1.1.0.now) a.0.now p.1 (ap (λ (r : RingAnswer). r.answer) p.0) h;
     put_cursors = λ κs a x s p h. kept x.answer (judged_count (length a.0.now) a.1.0 (length a.1.1.0.now)) (write_to a.1.0 (wrap (length a.0.now) (a.1.0.write.0 + length a.1.1.0.now))) a.1.0 (ap (λ (r : RingAnswer). r.cursors) p.0) (ap (λ (r : RingAnswer). r.answer) p.0) h;
     get4_cursors = λ κs a x s p h. kept x.answer (judged_ring (length a.0.now) a.1.0) (read_to a.1.0 (ahead (length a.0.now) 4 a.1.0.read.0)) a.1.0 (ap (λ (r : FourAnswer). r.cursors) (p)) (ap (λ (r : FourAnswer). r.answer) (p)) h;
-    put4_ring_lem = λ κs a x s p h. kept x.answer (judged_ring (length a.0.now) a.1.0) (write_each a.0.now a.1.0.write.0 (list_of a.1.1.0)) a.0.now p.1 (ap (λ (r : RingAnswer). r.answer) p.0) h;
+    put4_ring = λ κs a x s p h. kept x.answer (judged_ring (length a.0.now) a.1.0) (write_each a.0.now a.1.0.write.0 (list_of a.1.1.0)) a.0.now p.1 (ap (λ (r : RingAnswer). r.answer) p.0) h;
     put4_cursors = λ κs a x s p h. kept x.answer (judged_ring (length a.0.now) a.1.0) (write_to a.1.0 (ahead (length a.0.now) 4 a.1.0.write.0)) a.1.0 (ap (λ (r : RingAnswer). r.cursors) p.0) (ap (λ (r : RingAnswer). r.answer) p.0) h;
   };
   hadamard = record {
@@ -48,8 +48,8 @@ parts_unchanged = record {
     delay_values_out = λ κs a x s p h. kept (x) (judged_values a.0 a.1.0 (length a.1.1.0.now) (length a.1.1.1.0.now)) (values_from (delay_min a.0 a.1.0) 0 a.1.1.0.now) a.1.1.1.0.now p.1 p.0 h;
   };
   audio_buffer = record {
-    write-interleaved_target = λ κs a x s p h. kept (x) (judged_two a.0 a.1.0 (length a.1.1.0.now) (length a.1.1.1.0.now)) (interleaved a.0 a.1.0 a.1.1.0.now) a.1.1.1.0.now p.1 p.0 h;
-    read-interleaved_buffer = λ κs a x s p h. kept (x) (judged_two a.0 a.1.0 (length a.1.1.0.now) (length a.1.1.1.0.now)) (deinterleaved a.0 a.1.0 a.1.1.0.now) a.1.1.1.0.now p.1 p.0 h;
+    write_interleaved_target = λ κs a x s p h. kept (x) (judged_two a.0 a.1.0 (length a.1.1.0.now) (length a.1.1.1.0.now)) (interleaved a.0 a.1.0 a.1.1.0.now) a.1.1.1.0.now p.1 p.0 h;
+    read_interleaved_buffer = λ κs a x s p h. kept (x) (judged_two a.0 a.1.0 (length a.1.1.0.now) (length a.1.1.1.0.now)) (deinterleaved a.0 a.1.0 a.1.1.0.now) a.1.1.1.0.now p.1 p.0 h;
   };
   levels = record {
     make_silent_buffer = λ κs a x s p h. kept (x) (judged_one a.0 a.1.0 (length a.1.1.0.now)) (replicate (length a.1.1.0.now) +0) a.1.1.0.now p.1 p.0 h;

@@ -69,7 +69,7 @@ pub record FaceDetermined : Type 0 where
   pub fresh : DeterminedWith1 1 hall-fresh-kinds.ps hall-fresh-kinds.r hall-fresh-reads.Post (λ κs s. s.1.1.0.now)
   pub reset : DeterminedWith1 1 hall-reset-kinds.ps hall-reset-kinds.r hall-reset-reads.Post (λ κs s. s.1.0.now)
   pub apply : DeterminedWith3 5 hall-apply-kinds.ps hall-apply-kinds.r hall-apply-reads.Post (λ κs s. s.1.1.1.1.1.1.0.now) (λ κs s. s.1.1.1.1.1.1.1.0.now) (λ κs s. s.1.1.1.1.1.1.1.1.0.now)
-  pub apply_frames_lem : DeterminedWith3 5 hall-apply-frames-kinds.ps hall-apply-frames-kinds.r hall-apply-frames-reads.Post (λ κs s. s.1.1.1.1.1.1.0.now) (λ κs s. s.1.1.1.1.1.1.1.0.now) (λ κs s. s.1.1.1.1.1.1.1.1.0.now)
+  pub apply_frames : DeterminedWith3 5 hall-apply-frames-kinds.ps hall-apply-frames-kinds.r hall-apply-frames-reads.Post (λ κs s. s.1.1.1.1.1.1.0.now) (λ κs s. s.1.1.1.1.1.1.1.0.now) (λ κs s. s.1.1.1.1.1.1.1.1.0.now)
   pub tail : DeterminedWith3 3 hall-tail-kinds.ps hall-tail-kinds.r hall-tail-reads.Post (λ κs s. s.1.0.now) (λ κs s. s.1.1.0.now) (λ κs s. s.1.1.1.0.now)
   pub interleave : DeterminedWith1 2 hall-interleave-kinds.ps hall-interleave-kinds.r hall-interleave-reads.Post (λ κs s. s.1.1.1.0.now)
   pub deinterleave : DeterminedWith1 2 hall-deinterleave-kinds.ps hall-deinterleave-kinds.r hall-deinterleave-reads.Post (λ κs s. s.1.1.1.0.now)
@@ -78,7 +78,7 @@ pub record FaceDetermined : Type 0 where
   pub buffer_mix : DeterminedWith1 2 hall-buffer-mix-kinds.ps hall-buffer-mix-kinds.r hall-buffer-mix-reads.Post (λ κs s. s.1.1.1.0.now)
   pub downmix : DeterminedWith1 2 hall-downmix-kinds.ps hall-downmix-kinds.r hall-downmix-reads.Post (λ κs s. s.1.1.1.0.now)
   pub channel_number : Determined 0 hall-channel-number-kinds.ps hall-channel-number-kinds.r hall-channel-number-reads.Post
-  pub delay_min_lem : Determined 0 hall-delay-min-kinds.ps hall-delay-min-kinds.r hall-delay-min-reads.Post
+  pub delay_min : Determined 0 hall-delay-min-kinds.ps hall-delay-min-kinds.r hall-delay-min-reads.Post
   pub prime_power : Determined 0 hall-prime-power-kinds.ps hall-prime-power-kinds.r hall-prime-power-reads.Post
   pub delay_value : Determined 0 hall-delay-value-kinds.ps hall-delay-value-kinds.r hall-delay-value-reads.Post
   pub ring_get : DeterminedWith1 2 hall-ring-get-kinds.ps hall-ring-get-kinds.r hall-ring-get-reads.Post (λ κs s. s.1.1.0.now)
@@ -86,12 +86,12 @@ pub record FaceDetermined : Type 0 where
   pub ring_get4 : Determined 1 hall-ring-get4-kinds.ps hall-ring-get4-kinds.r hall-ring-get4-reads.Post
   pub ring_put4 : DeterminedWith1 1 hall-ring-put4-kinds.ps hall-ring-put4-kinds.r hall-ring-put4-reads.Post (λ κs s. s.0.now)
   pub ring_reset : DeterminedWith1 1 hall-ring-reset-kinds.ps hall-ring-reset-kinds.r hall-ring-reset-reads.Post (λ κs s. s.0.now)
-  pub open_apply_lem : DeterminedWith1 4 hall-open-apply-kinds.ps hall-open-apply-kinds.r hall-open-apply-reads.Post (λ κs s. s.1.1.1.1.1.1.1.0.now)
-  pub open_tail_lem : DeterminedWith1 2 hall-open-tail-kinds.ps hall-open-tail-kinds.r hall-open-tail-reads.Post (λ κs s. s.1.1.0.now)
+  pub open_apply : DeterminedWith1 4 hall-open-apply-kinds.ps hall-open-apply-kinds.r hall-open-apply-reads.Post (λ κs s. s.1.1.1.1.1.1.1.0.now)
+  pub open_tail : DeterminedWith1 2 hall-open-tail-kinds.ps hall-open-tail-kinds.r hall-open-tail-reads.Post (λ κs s. s.1.1.0.now)
   pub job_read : DeterminedWith1 2 hall-job-read-kinds.ps hall-job-read-kinds.r hall-job-read-reads.Post (λ κs s. s.1.1.1.0.now)
-  pub job_mix_lem : DeterminedWith1 1 hall-job-mix-kinds.ps hall-job-mix-kinds.r hall-job-mix-reads.Post (λ κs s. s.1.0.now)
-  pub job_line_lem : DeterminedWith1 1 hall-job-line-kinds.ps hall-job-line-kinds.r hall-job-line-reads.Post (λ κs s. s.1.1.0.now)
-  pub job_output_lem : DeterminedWith1 1 hall-job-output-kinds.ps hall-job-output-kinds.r hall-job-output-reads.Post (λ κs s. s.1.0.now)
+  pub job_mix : DeterminedWith1 1 hall-job-mix-kinds.ps hall-job-mix-kinds.r hall-job-mix-reads.Post (λ κs s. s.1.0.now)
+  pub job_line : DeterminedWith1 1 hall-job-line-kinds.ps hall-job-line-kinds.r hall-job-line-reads.Post (λ κs s. s.1.1.0.now)
+  pub job_output : DeterminedWith1 1 hall-job-output-kinds.ps hall-job-output-kinds.r hall-job-output-reads.Post (λ κs s. s.1.0.now)
   pub close : DeterminedWith3 3 hall-close-kinds.ps hall-close-kinds.r hall-close-reads.Post (λ κs s. s.1.0.now) (λ κs s. s.1.1.0.now) (λ κs s. s.1.1.1.0.now)
   pub abandon : DeterminedWith1 1 hall-abandon-kinds.ps hall-abandon-kinds.r hall-abandon-reads.Post (λ κs s. s.1.0.now)
   pub filter-run : DeterminedWith1 1 hall-filter-run-kinds.ps hall-filter-run-kinds.r hall-filter-run-reads.Post (λ κs s. s.1.0.now)

@@ -260,14 +260,14 @@ pub record SamplesDetermined : Type 0 where
   pub is_accepted : Determined 0 samples-is-accepted-kinds.ps samples-is-accepted-kinds.r samples-is-accepted-reads.Post
   pub need : Determined 0 samples-need-kinds.ps samples-need-kinds.r samples-need-reads.Post
   pub and : Determined 0 samples-and-kinds.ps samples-and-kinds.r samples-and-reads.Post
-  pub rate_ok_lem : Determined 0 samples-rate-ok-kinds.ps samples-rate-ok-kinds.r samples-rate-ok-reads.Post
-  pub frame_ok_lem : Determined 0 samples-frame-ok-kinds.ps samples-frame-ok-kinds.r samples-frame-ok-reads.Post
+  pub rate_ok : Determined 0 samples-rate-ok-kinds.ps samples-rate-ok-kinds.r samples-rate-ok-reads.Post
+  pub frame_ok : Determined 0 samples-frame-ok-kinds.ps samples-frame-ok-kinds.r samples-frame-ok-reads.Post
   pub is_finite : Determined 0 samples-is-finite-kinds.ps samples-is-finite-kinds.r samples-is-finite-reads.Post
-  pub is_plus-zero : Determined 0 samples-is-plus-zero-kinds.ps samples-is-plus-zero-kinds.r samples-is-plus-zero-reads.Post
+  pub is_plus_zero : Determined 0 samples-is-plus-zero-kinds.ps samples-is-plus-zero-kinds.r samples-is-plus-zero-reads.Post
   pub clear : DeterminedExit 1 samples-clear-kinds.ps samples-clear-kinds.r samples-clear-reads.Post (λ κs s. s.0.now)
 
 pub record SearchDetermined : Type 0 where
-  pub first_bad_lem : Determined 1 search-first-bad-kinds.ps search-first-bad-kinds.r search-first-bad-reads.Post
+  pub first_bad : Determined 1 search-first-bad-kinds.ps search-first-bad-kinds.r search-first-bad-reads.Post
   pub is_nothing : Determined 0 search-is-nothing-kinds.ps search-is-nothing-kinds.r search-is-nothing-reads.Post
   pub all-finite : Determined 1 search-all-finite-kinds.ps search-all-finite-kinds.r search-all-finite-reads.Post
 
@@ -288,9 +288,9 @@ pub record IirDetermined : Type 0 where
   pub is_blank : Determined 0 iir-is-blank-kinds.ps iir-is-blank-kinds.r iir-is-blank-reads.Post
 
 pub record LanesDetermined : Type 0 where
-  pub by_band_lem : Determined 0 lanes-by-band-kinds.ps lanes-by-band-kinds.r lanes-by-band-reads.Post
-  pub bands_at_lem : Determined 0 lanes-bands-at-kinds.ps lanes-bands-at-kinds.r lanes-bands-at-reads.Post
-  pub step_bands_lem : Determined 0 lanes-step-bands-kinds.ps lanes-step-bands-kinds.r lanes-step-bands-reads.Post
+  pub by_band : Determined 0 lanes-by-band-kinds.ps lanes-by-band-kinds.r lanes-by-band-reads.Post
+  pub bands_at : Determined 0 lanes-bands-at-kinds.ps lanes-bands-at-kinds.r lanes-bands-at-reads.Post
+  pub step_bands : Determined 0 lanes-step-bands-kinds.ps lanes-step-bands-kinds.r lanes-step-bands-reads.Post
   pub pack : Determined 0 lanes-pack-kinds.ps lanes-pack-kinds.r lanes-pack-reads.Post
   pub lane : Determined 0 lanes-lane-kinds.ps lanes-lane-kinds.r lanes-lane-reads.Post
   pub step : Determined 0 lanes-step-kinds.ps lanes-step-kinds.r lanes-step-reads.Post
@@ -311,16 +311,16 @@ pub record AllpassDetermined : Type 0 where
   pub pass_stage : DeterminedExit 1 allpass-pass-stage-kinds.ps allpass-pass-stage-kinds.r allpass-pass-stage-reads.Post (λ κs s. s.0.now)
 
 pub record BandsDetermined : Type 0 where
-  pub time_ok_lem : Determined 0 bands-time-ok-kinds.ps bands-time-ok-kinds.r bands-time-ok-reads.Post
-  pub times_ok_lem : Determined 0 bands-times-ok-kinds.ps bands-times-ok-kinds.r bands-times-ok-reads.Post
+  pub time_ok : Determined 0 bands-time-ok-kinds.ps bands-time-ok-kinds.r bands-time-ok-reads.Post
+  pub times_ok : Determined 0 bands-times-ok-kinds.ps bands-times-ok-kinds.r bands-times-ok-reads.Post
   pub largest : Determined 0 bands-largest-kinds.ps bands-largest-kinds.r bands-largest-reads.Post
-  pub tail_count_lem : Determined 0 bands-tail-count-kinds.ps bands-tail-count-kinds.r bands-tail-count-reads.Post
+  pub tail_count : Determined 0 bands-tail-count-kinds.ps bands-tail-count-kinds.r bands-tail-count-reads.Post
   pub fallen : Determined 0 bands-fallen-kinds.ps bands-fallen-kinds.r bands-fallen-reads.Post
 
 pub record PrimesDetermined : Type 0 where
   pub prime : Determined 0 primes-prime-kinds.ps primes-prime-kinds.r primes-prime-reads.Post
   pub delay : Determined 0 primes-delay-kinds.ps primes-delay-kinds.r primes-delay-reads.Post
-  pub delay_min_lem : Determined 0 primes-delay-min-kinds.ps primes-delay-min-kinds.r primes-delay-min-reads.Post
+  pub delay_min : Determined 0 primes-delay-min-kinds.ps primes-delay-min-kinds.r primes-delay-min-reads.Post
   pub prime_power : Determined 0 primes-prime-power-kinds.ps primes-prime-power-kinds.r primes-prime-power-reads.Post
   pub delay_value : Determined 0 primes-delay-value-kinds.ps primes-delay-value-kinds.r primes-delay-value-reads.Post
   pub delay_values : DeterminedWith1 2 primes-delay-values-kinds.ps primes-delay-values-kinds.r primes-delay-values-reads.Post (λ κs s. s.1.1.1.0.now)
@@ -348,8 +348,8 @@ pub record WireDetermined : Type 0 where
 
 pub record WaveDetermined : Type 0 where
   pub read_number : Determined 0 wave-read-number-kinds.ps wave-read-number-kinds.r wave-read-number-reads.Post
-  pub read_place_lem : Determined 0 wave-read-place-kinds.ps wave-read-place-kinds.r wave-read-place-reads.Post
-  pub take_of_lem : Determined 0 wave-take-of-kinds.ps wave-take-of-kinds.r wave-take-of-reads.Post
+  pub read_place : Determined 0 wave-read-place-kinds.ps wave-read-place-kinds.r wave-read-place-reads.Post
+  pub take_of : Determined 0 wave-take-of-kinds.ps wave-take-of-kinds.r wave-take-of-reads.Post
   pub read : Determined 1 wave-read-kinds.ps wave-read-kinds.r wave-read-reads.Post
   pub «data» : OneValue 1 wave-data-kinds.ps wave-data-kinds.r wave-data-reads.Post (λ κs x. x.now)
   pub floats : DeterminedExit 2 wave-floats-kinds.ps wave-floats-kinds.r wave-floats-reads.Post (λ κs s. s.1.1.0.now)
@@ -358,13 +358,13 @@ pub record UnitDetermined : Type 0 where
   pub fresh_state : Determined 0 unit-fresh-state-kinds.ps unit-fresh-state-kinds.r unit-fresh-state-reads.Post
   pub quiet : Determined 0 unit-quiet-kinds.ps unit-quiet-kinds.r unit-quiet-reads.Post
   pub lent_ok : Determined 0 unit-lent-ok-kinds.ps unit-lent-ok-kinds.r unit-lent-ok-reads.Post
-  pub rings_hold_lem : Determined 0 unit-rings-hold-kinds.ps unit-rings-hold-kinds.r unit-rings-hold-reads.Post
+  pub rings_hold : Determined 0 unit-rings-hold-kinds.ps unit-rings-hold-kinds.r unit-rings-hold-reads.Post
   pub rings_of : Determined 0 unit-rings-of-kinds.ps unit-rings-of-kinds.r unit-rings-of-reads.Post
-  pub room_ok_lem : Determined 0 unit-room-ok-kinds.ps unit-room-ok-kinds.r unit-room-ok-reads.Post
+  pub room_ok : Determined 0 unit-room-ok-kinds.ps unit-room-ok-kinds.r unit-room-ok-reads.Post
   pub in-range : Determined 0 unit-in-range-kinds.ps unit-in-range-kinds.r unit-in-range-reads.Post
   pub lengths : Determined 0 unit-lengths-kinds.ps unit-lengths-kinds.r unit-lengths-reads.Post
   pub store_ok : Determined 0 unit-store-ok-kinds.ps unit-store-ok-kinds.r unit-store-ok-reads.Post
-  pub work_ok_lem : Determined 0 unit-work-ok-kinds.ps unit-work-ok-kinds.r unit-work-ok-reads.Post
+  pub work_ok : Determined 0 unit-work-ok-kinds.ps unit-work-ok-kinds.r unit-work-ok-reads.Post
   pub ring_place : Determined 0 unit-ring-place-kinds.ps unit-ring-place-kinds.r unit-ring-place-reads.Post
   pub work_places : Determined 0 unit-work-places-kinds.ps unit-work-places-kinds.r unit-work-places-reads.Post
   pub is_store : Determined 0 unit-is-store-kinds.ps unit-is-store-kinds.r unit-is-store-reads.Post
@@ -390,14 +390,14 @@ pub record StagesDetermined : Type 0 where
   pub add_first : DeterminedExit 1 stages-add-first-kinds.ps stages-add-first-kinds.r stages-add-first-reads.Post (λ κs s. s.0.now)
   pub divide : DeterminedExit 1 stages-divide-kinds.ps stages-divide-kinds.r stages-divide-reads.Post (λ κs s. s.0.now)
   pub copy : DeterminedExit 2 stages-copy-kinds.ps stages-copy-kinds.r stages-copy-reads.Post (λ κs s. s.1.0.now)
-  pub filters_finite_lem : Determined 0 stages-filters-finite-kinds.ps stages-filters-finite-kinds.r stages-filters-finite-reads.Post
+  pub filters_finite : Determined 0 stages-filters-finite-kinds.ps stages-filters-finite-kinds.r stages-filters-finite-reads.Post
 
 pub record RowsDetermined : Type 0 where
-  pub line_rows_lem : DeterminedWith1 1 rows-line-rows-kinds.ps rows-line-rows-kinds.r rows-line-rows-reads.Post (λ κs s. s.1.1.1.1.1.0.now)
+  pub line_rows : DeterminedWith1 1 rows-line-rows-kinds.ps rows-line-rows-kinds.r rows-line-rows-reads.Post (λ κs s. s.1.1.1.1.1.0.now)
   pub make_line : DeterminedWith1 1 rows-make-line-kinds.ps rows-make-line-kinds.r rows-make-line-reads.Post (λ κs s. s.1.1.1.1.0.now)
   pub read_line : DeterminedExit 2 rows-read-line-kinds.ps rows-read-line-kinds.r rows-read-line-reads.Post (λ κs s. s.1.1.1.1.0.now)
   pub output-fits : Determined 0 rows-output-fits-kinds.ps rows-output-fits-kinds.r rows-output-fits-reads.Post
-  pub work_for_lem : Determined 0 rows-work-for-kinds.ps rows-work-for-kinds.r rows-work-for-reads.Post
+  pub work_for : Determined 0 rows-work-for-kinds.ps rows-work-for-kinds.r rows-work-for-reads.Post
   pub three_at : DeterminedWith1 1 rows-three-at-kinds.ps rows-three-at-kinds.r rows-three-at-reads.Post (λ κs s. s.1.1.0.now)
 
 pub record OutputsDetermined : Type 0 where
@@ -412,19 +412,19 @@ pub record ReverbDetermined : Type 0 where
   pub fresh : DeterminedWith1 1 reverb-fresh-kinds.ps reverb-fresh-kinds.r reverb-fresh-reads.Post (λ κs s. s.1.1.0.now)
   pub reset : DeterminedWith1 1 reverb-reset-kinds.ps reverb-reset-kinds.r reverb-reset-reads.Post (λ κs s. s.1.0.now)
   pub apply : DeterminedWith3 5 reverb-apply-kinds.ps reverb-apply-kinds.r reverb-apply-reads.Post (λ κs s. s.1.1.1.1.0.now) (λ κs s. s.1.1.1.1.1.0.now) (λ κs s. s.1.1.1.1.1.1.0.now)
-  pub apply_frames_lem : DeterminedWith3 5 reverb-apply-frames-kinds.ps reverb-apply-frames-kinds.r reverb-apply-frames-reads.Post (λ κs s. s.1.1.1.1.0.now) (λ κs s. s.1.1.1.1.1.0.now) (λ κs s. s.1.1.1.1.1.1.0.now)
+  pub apply_frames : DeterminedWith3 5 reverb-apply-frames-kinds.ps reverb-apply-frames-kinds.r reverb-apply-frames-reads.Post (λ κs s. s.1.1.1.1.0.now) (λ κs s. s.1.1.1.1.1.0.now) (λ κs s. s.1.1.1.1.1.1.0.now)
   pub tail : DeterminedWith3 3 reverb-tail-kinds.ps reverb-tail-kinds.r reverb-tail-reads.Post (λ κs s. s.1.0.now) (λ κs s. s.1.1.0.now) (λ κs s. s.1.1.1.0.now)
-  pub filters_of_lem : Determined 1 reverb-filters-of-kinds.ps reverb-filters-of-kinds.r reverb-filters-of-reads.Post
+  pub filters_of : Determined 1 reverb-filters-of-kinds.ps reverb-filters-of-kinds.r reverb-filters-of-reads.Post
 
 pub record OpeningDetermined : Type 0 where
-  pub open_apply_lem : DeterminedWith1 4 opening-open-apply-kinds.ps opening-open-apply-kinds.r opening-open-apply-reads.Post (λ κs s. s.1.1.1.1.1.0.now)
-  pub open_tail_lem : DeterminedWith1 2 opening-open-tail-kinds.ps opening-open-tail-kinds.r opening-open-tail-reads.Post (λ κs s. s.1.1.0.now)
+  pub open_apply : DeterminedWith1 4 opening-open-apply-kinds.ps opening-open-apply-kinds.r opening-open-apply-reads.Post (λ κs s. s.1.1.1.1.1.0.now)
+  pub open_tail : DeterminedWith1 2 opening-open-tail-kinds.ps opening-open-tail-kinds.r opening-open-tail-reads.Post (λ κs s. s.1.1.0.now)
 
 pub record JobsDetermined : Type 0 where
   pub job_read : DeterminedWith1 2 jobs-job-read-kinds.ps jobs-job-read-kinds.r jobs-job-read-reads.Post (λ κs s. s.1.1.1.0.now)
-  pub job_mix_lem : DeterminedWith1 1 jobs-job-mix-kinds.ps jobs-job-mix-kinds.r jobs-job-mix-reads.Post (λ κs s. s.1.0.now)
-  pub job_line_lem : DeterminedWith1 1 jobs-job-line-kinds.ps jobs-job-line-kinds.r jobs-job-line-reads.Post (λ κs s. s.1.1.0.now)
-  pub job_output_lem : DeterminedWith1 1 jobs-job-output-kinds.ps jobs-job-output-kinds.r jobs-job-output-reads.Post (λ κs s. s.1.0.now)
+  pub job_mix : DeterminedWith1 1 jobs-job-mix-kinds.ps jobs-job-mix-kinds.r jobs-job-mix-reads.Post (λ κs s. s.1.0.now)
+  pub job_line : DeterminedWith1 1 jobs-job-line-kinds.ps jobs-job-line-kinds.r jobs-job-line-reads.Post (λ κs s. s.1.1.0.now)
+  pub job_output : DeterminedWith1 1 jobs-job-output-kinds.ps jobs-job-output-kinds.r jobs-job-output-reads.Post (λ κs s. s.1.0.now)
 
 pub record ClosingDetermined : Type 0 where
   pub close : DeterminedWith3 3 closing-close-kinds.ps closing-close-kinds.r closing-close-reads.Post (λ κs s. s.1.0.now) (λ κs s. s.1.1.0.now) (λ κs s. s.1.1.1.0.now)

@@ -33,15 +33,15 @@ use Rattle.levels.proofs.downmix.Kinds as levels-downmix-kinds
 use Rattle.levels.proofs.downmix.Reads as levels-downmix-reads
 
 pub record DelayUnchanged : Type 0 where
-  pub fresh_ring_lem : Unchanged 1 delay-fresh-kinds.ps delay-fresh-kinds.r delay-fresh-reads.Post (λ κs x. x.answer) (λ κs x s. s.0.now) (λ κs a. a.0.now)
-  pub reset_ring_lem : Unchanged 1 delay-reset-kinds.ps delay-reset-kinds.r delay-reset-reads.Post (λ κs x. x.answer) (λ κs x s. s.0.now) (λ κs a. a.0.now)
+  pub fresh_ring : Unchanged 1 delay-fresh-kinds.ps delay-fresh-kinds.r delay-fresh-reads.Post (λ κs x. x.answer) (λ κs x s. s.0.now) (λ κs a. a.0.now)
+  pub reset_ring : Unchanged 1 delay-reset-kinds.ps delay-reset-kinds.r delay-reset-reads.Post (λ κs x. x.answer) (λ κs x s. s.0.now) (λ κs a. a.0.now)
   pub reset_cursors : Unchanged 1 delay-reset-kinds.ps delay-reset-kinds.r delay-reset-reads.Post (λ κs x. x.answer) (λ κs x s. x.cursors) (λ κs a. a.1.0)
-  pub get_out_lem : Unchanged 2 delay-get-kinds.ps delay-get-kinds.r delay-get-reads.Post (λ κs x. x.answer) (λ κs x s. s.1.1.0.now) (λ κs a. a.1.1.0.now)
+  pub get_out : Unchanged 2 delay-get-kinds.ps delay-get-kinds.r delay-get-reads.Post (λ κs x. x.answer) (λ κs x s. s.1.1.0.now) (λ κs a. a.1.1.0.now)
   pub get_cursors : Unchanged 2 delay-get-kinds.ps delay-get-kinds.r delay-get-reads.Post (λ κs x. x.answer) (λ κs x s. x.cursors) (λ κs a. a.1.0)
-  pub put_ring_lem : Unchanged 2 delay-put-kinds.ps delay-put-kinds.r delay-put-reads.Post (λ κs x. x.answer) (λ κs x s. s.0.now) (λ κs a. a.0.now)
+  pub put_ring : Unchanged 2 delay-put-kinds.ps delay-put-kinds.r delay-put-reads.Post (λ κs x. x.answer) (λ κs x s. s.0.now) (λ κs a. a.0.now)
   pub put_cursors : Unchanged 2 delay-put-kinds.ps delay-put-kinds.r delay-put-reads.Post (λ κs x. x.answer) (λ κs x s. x.cursors) (λ κs a. a.1.0)
   pub get4_cursors : Unchanged 1 delay-get4-kinds.ps delay-get4-kinds.r delay-get4-reads.Post (λ κs x. x.answer) (λ κs x s. x.cursors) (λ κs a. a.1.0)
-  pub put4_ring_lem : Unchanged 1 delay-put4-kinds.ps delay-put4-kinds.r delay-put4-reads.Post (λ κs x. x.answer) (λ κs x s. s.0.now) (λ κs a. a.0.now)
+  pub put4_ring : Unchanged 1 delay-put4-kinds.ps delay-put4-kinds.r delay-put4-reads.Post (λ κs x. x.answer) (λ κs x s. s.0.now) (λ κs a. a.0.now)
   pub put4_cursors : Unchanged 1 delay-put4-kinds.ps delay-put4-kinds.r delay-put4-reads.Post (λ κs x. x.answer) (λ κs x s. x.cursors) (λ κs a. a.1.0)
 
 pub record HadamardUnchanged : Type 0 where
@@ -54,8 +54,8 @@ pub record PrimesUnchanged : Type 0 where
   pub delay_values_out : Unchanged 2 primes-delay-values-kinds.ps primes-delay-values-kinds.r primes-delay-values-reads.Post (λ κs x. x) (λ κs x s. s.1.1.1.0.now) (λ κs a. a.1.1.1.0.now)
 
 pub record AudioBufferUnchanged : Type 0 where
-  pub write-interleaved_target : Unchanged 2 audio-buffer-write-interleaved-kinds.ps audio-buffer-write-interleaved-kinds.r audio-buffer-write-interleaved-reads.Post (λ κs x. x) (λ κs x s. s.1.1.1.0.now) (λ κs a. a.1.1.1.0.now)
-  pub read-interleaved_buffer : Unchanged 2 audio-buffer-read-interleaved-kinds.ps audio-buffer-read-interleaved-kinds.r audio-buffer-read-interleaved-reads.Post (λ κs x. x) (λ κs x s. s.1.1.1.0.now) (λ κs a. a.1.1.1.0.now)
+  pub write_interleaved_target : Unchanged 2 audio-buffer-write-interleaved-kinds.ps audio-buffer-write-interleaved-kinds.r audio-buffer-write-interleaved-reads.Post (λ κs x. x) (λ κs x s. s.1.1.1.0.now) (λ κs a. a.1.1.1.0.now)
+  pub read_interleaved_buffer : Unchanged 2 audio-buffer-read-interleaved-kinds.ps audio-buffer-read-interleaved-kinds.r audio-buffer-read-interleaved-reads.Post (λ κs x. x) (λ κs x s. s.1.1.1.0.now) (λ κs a. a.1.1.1.0.now)
 
 pub record LevelsUnchanged : Type 0 where
   pub make_silent_buffer : Unchanged 1 levels-make-silent-kinds.ps levels-make-silent-kinds.r levels-make-silent-reads.Post (λ κs x. x) (λ κs x s. s.1.1.0.now) (λ κs a. a.1.1.0.now)
