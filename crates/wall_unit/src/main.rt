@@ -8,6 +8,8 @@
 ghost use Rattle.std.specs.Prelude.{◌≤◌, length};
 
 use shell::{BYTES, STORE, WORK};
+use std::alloc::Global;
+use std::io;
 use std::io::Read;
 use std::process::ExitCode;
 use unit::State;
@@ -16,6 +18,7 @@ use unit::State;
 #[derive(Drop)]
 struct Ends<'a, T: Print + Eprint, R: Read + Drop> {
     rt: &'a T,
+    alloc: Global,
     input: R,
     well: bool,
 }
@@ -28,6 +31,22 @@ struct Went {
     last: bool,
 }
 
+// What the system says of a failed read or write, without the number that stands behind it.
+fn words(text: &str) -> &str {
+    match text.split_once(" (os error ") {
+        Some((said, _)) => said,
+        None => text,
+    }
+}
+
+// Says on standard error why a read or a write failed (R9.15).
+fn say<T: Eprint>(rt: &T, alloc: Global, end: &str, e: io::Error) {
+    if let Ok(text) = format!(in alloc; "{e}") {
+        let said = words(&text);
+        let _ = eprintln!(rt; "wall_unit: {end}: {said}");
+    }
+}
+
 // One read: how many bytes came, none at the input's end. A read that fails is said, and ends the
 // input (R9.15).
 fn get_some<T: Print + Eprint, R: Read + Drop>(ends: &mut Ends<'_, T, R>, bytes: &mut [u8]) -> usize
@@ -37,7 +56,7 @@ fn get_some<T: Print + Eprint, R: Read + Drop>(ends: &mut Ends<'_, T, R>, bytes:
         Ok(n) => n,
         Err(e) => {
             ends.well = false;
-            let _ = eprintln!(ends.rt; "wall_unit: standard input: {e}");
+            say(ends.rt, ends.alloc, "standard input", e);
             0
         }
     }
@@ -64,7 +83,7 @@ fn put<T: Print + Eprint, R: Read + Drop>(ends: &mut Ends<'_, T, R>, out: &[u8; 
         Ok(()) => true,
         Err(e) => {
             ends.well = false;
-            let _ = eprintln!(ends.rt; "wall_unit: standard output: {e}");
+            say(ends.rt, ends.alloc, "standard output", e);
             false
         }
     }
@@ -183,6 +202,7 @@ fn main(rt: HostRuntime) -> ExitCode {
     let mut work = [0.0f32; WORK];
     let mut ends = Ends {
         rt: &rt,
+        alloc: rt.alloc(),
         input: rt.reader(),
         well: true,
     };
