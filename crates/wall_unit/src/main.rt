@@ -39,11 +39,16 @@ fn words(text: &str) -> &str {
     }
 }
 
-// Says on standard error why a read or a write failed (R9.15).
+// Says on standard error why a read or a write failed (R9.15); with the number where there is no memory for the words alone.
 fn say<T: Eprint>(rt: &T, alloc: Global, end: &str, e: io::Error) {
-    if let Ok(text) = format!(in alloc; "{e}") {
-        let said = words(&text);
-        let _ = eprintln!(rt; "wall_unit: {end}: {said}");
+    match format!(in alloc; "{e}") {
+        Ok(text) => {
+            let said = words(&text);
+            let _ = eprintln!(rt; "wall_unit: {end}: {said}");
+        }
+        Err(_) => {
+            let _ = eprintln!(rt; "wall_unit: {end}: {e}");
+        }
     }
 }
 
