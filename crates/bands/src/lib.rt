@@ -90,8 +90,8 @@ fn judge(t: Times, rate: u32, frame: usize) -> Answer
 
 // How many frames it takes to cover a time, a part of a frame counted as a whole one.
 fn frames_in(time: f32, rate: u32, frame: u32) -> u32
-    requires fact_1 { time_ok time ≡ true }
-    requires fact_2 { (rate ≤ highest_rate) × (shortest_frame ≤ frame) × (frame ≤ longest_frame) }
+    requires time_fits { time_ok time ≡ true }
+    requires sizes_fit { (rate ≤ highest_rate) × (shortest_frame ≤ frame) × (frame ≤ longest_frame) }
     ensures { (result ≡ ceiling (frames_in time rate frame)) × (result ≤ 4800000) }
 {
     let samples = time * std::num::nearest_u32_to_f32(rate);

@@ -16,8 +16,8 @@ strand_long k zero tile = refl
 strand_long k (suc m) tile = ap suc (strand_long k m (drop 4 tile))
 
 -- the place of line k in the column after the first j
-next-column : (j k : ℕ) → 4 * suc j + k ≡ 4 + (4 * j + k)
-next-column j k = omega arith
+next_column : (j k : ℕ) → 4 * suc j + k ≡ 4 + (4 * j + k)
+next_column j k = omega arith
 
 first_column : (k : ℕ) → 4 * 0 + k ≡ k
 first_column k = omega arith
@@ -26,7 +26,7 @@ strand_at : (k m j : ℕ) (tile : List Float) → j < m → get_or (strand k m t
 strand_at k zero j tile h = absurd (omega arith)
 strand_at k (suc m) zero tile h = rw first_column refl
 strand_at k (suc m) (suc j) tile h =
-    strand_at k m j (drop 4 tile) (omega arith) ∙ get_or-drop 4 tile (4 * j + k) nan ∙ ap (λ (p : ℕ). get_or tile p nan) (sym (next-column j k))
+    strand_at k m j (drop 4 tile) (omega arith) ∙ get_or-drop 4 tile (4 * j + k) nan ∙ ap (λ (p : ℕ). get_or tile p nan) (sym (next_column j k))
 
 -- a sample set in column j, in the place of line i
 module _ (k i : ℕ) (v : Float) (hk : k < 4) (hi : i < 4) where
@@ -38,7 +38,7 @@ module _ (k i : ℕ) (v : Float) (hk : k < 4) (hi : i < 4) where
   set_own (suc m) (suc j) tile e h l =
       let apart : (k ≡ 4 + (4 * j + i)) → ⊥ = λ q. omega arith in
       let room : 4 * m ≤ length (drop 4 tile) = rw length-drop (omega arith) in
-      rw (next-column j i, get_or-set_other tile (4 + (4 * j + i)) k v nan apart, drop-set-add 4 tile (4 * j + i) v, set_own m j (drop 4 tile) e (omega arith) room) refl
+      rw (next_column j i, get_or-set_other tile (4 + (4 * j + i)) k v nan apart, drop-set-add 4 tile (4 * j + i) v, set_own m j (drop 4 tile) e (omega arith) room) refl
 
   -- of another
   set_apart : (m j : ℕ) (tile : List Float) → (k ≡ i → ⊥) → strand k m (set tile (4 * j + i) v) ≡ strand k m tile
@@ -47,7 +47,7 @@ module _ (k i : ℕ) (v : Float) (hk : k < 4) (hi : i < 4) where
       rw (first_column i, get_or-set_other tile i k v nan a, drop-set-lt 4 tile i v hi) refl
   set_apart (suc m) (suc j) tile a =
       let apart : (k ≡ 4 + (4 * j + i)) → ⊥ = λ q. omega arith in
-      rw (next-column j i, get_or-set_other tile (4 + (4 * j + i)) k v nan apart, drop-set-add 4 tile (4 * j + i) v, set_apart m j (drop 4 tile) a) refl
+      rw (next_column j i, get_or-set_other tile (4 + (4 * j + i)) k v nan apart, drop-set-add 4 tile (4 * j + i) v, set_apart m j (drop 4 tile) a) refl
 
 module _ (m j : ℕ) (h : j < m) (tile : List Float) where
   pub tile_at : (k : ℕ) → k < 4 → at k (tile_column j tile) ≡ get_or (strand k m tile) j nan

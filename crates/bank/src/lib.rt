@@ -21,7 +21,7 @@ use lanes::{FourBands, bands_at, by_band};
 // Filters four rows in place, each by its line's bands, and gives the bands after them. The rows lie
 // one after the other and are a quarter of the slice each; what is over stays as it is (R4.7).
 pub fn four_lines(b: FourBands, rows: &mut [f32]) -> FourBands
-    ensures result_value { lines result ≡ lines_end (length rows.old / 4) (lines b) rows.old }
+    ensures value { lines result ≡ lines_end (length rows.old / 4) (lines b) rows.old }
     ensures rows_after { rows.new ≡ lines_out (length rows.old / 4) (lines b) rows.old }
 {
     let g = run_rows(rows.len() / 4, by_band(b), rows);

@@ -135,7 +135,7 @@ fn tile_of(left: usize) -> usize
 // Four rows of f samples through the bands, in place. What lies after them stays.
 pub(crate) fn run_rows(f: usize, b: BandLanes, rows: &mut [f32]) -> BandLanes
     requires { 4 * f ≤ length rows.old }
-    ensures result_value { lined (λ k. bands_at k result) ≡ lines_end f (lined (λ k. bands_at k b)) rows.old }
+    ensures value { lined (λ k. bands_at k result) ≡ lines_end f (lined (λ k. bands_at k b)) rows.old }
     ensures rows_after { rows.new ≡ lines_out f (lined (λ k. bands_at k b)) rows.old }
 {
     let mut tile = [0.0f32; 256];

@@ -38,8 +38,8 @@ module _ (f n : ℕ) {A : Type 0} (rows : List A) (e : length rows ≡ suc n * f
   rest_long = simp length-drop (omega (arith, suc-mul n f))
 
 -- the filters of the line after line i
-next-three : (k i : ℕ) → k + 3 + 3 * i ≡ k + 3 * suc i
-next-three k i = omega arith
+next_three : (k i : ℕ) → k + 3 + 3 * i ≡ k + 3 * suc i
+next_three k i = omega arith
 
 module _ (f : ℕ) (fs : List Filter) where
   pub bands_row : (n k i : ℕ) (rows : List Float) → i < n → length rows ≡ n * f
@@ -52,7 +52,7 @@ module _ (f : ℕ) (fs : List Filter) where
       let l = bands_length (three k fs) (take f rows) ∙ first_long f n rows e in
       rw (peel f n k fs rows (one_more f n rows e), drop_at (bands_out (three k fs) (take f rows)) (by_bands f n (k + 3) fs (drop f rows)) f l)
       (bands_row n (k + 3) i (drop f rows) (omega arith) (rest_long f n rows e)
-      ∙ ap (λ (j : ℕ). bands_out (three j fs) (row f i (drop f rows))) (next-three k i))
+      ∙ ap (λ (j : ℕ). bands_out (three j fs) (row f i (drop f rows))) (next_three k i))
 
   pub ends-row : (n k i : ℕ) (rows : List Float) → i < n → row 3 i (band_ends f n k fs rows) ≡ three_of (bands_end (three (k + 3 * i) fs) (row f i rows))
   unfolding band_ends
@@ -60,7 +60,7 @@ module _ (f : ℕ) (fs : List Filter) where
   ends-row (suc n) k zero rows h = rw add-zero refl
   ends-row (suc n) k (suc i) rows h =
       ends-row n (k + 3) i (drop f rows) (omega arith)
-      ∙ ap (λ (j : ℕ). three_of (bands_end (three j fs) (row f i (drop f rows)))) (next-three k i)
+      ∙ ap (λ (j : ℕ). three_of (bands_end (three j fs) (row f i (drop f rows)))) (next_three k i)
 
 pub add_row : (f n i : ℕ) (input rows : List Float) → i < n → length input ≡ f → length rows ≡ n * f
     → row f i (add_rows f n input rows) ≡ plus (row f i rows) input

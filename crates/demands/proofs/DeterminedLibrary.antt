@@ -26,7 +26,7 @@ library_determined = record {
   search = record {
     first_bad = λ κs a x y s t p q. p ∙ sym q;
     is_nothing = λ κs a x y s t p q. p ∙ sym q;
-    all-finite = λ κs a x y s t p q. p ∙ sym q;
+    all_finite = λ κs a x y s t p q. p ∙ sym q;
   };
   delay = record {
     fresh = λ κs a x y s t p q. (p.0 ∙ sym q.0, p.1 ∙ sym q.1);
@@ -53,13 +53,13 @@ library_determined = record {
     step = λ κs a x y s t p q. p ∙ sym q;
   };
   bank = record {
-    four-lines = λ κs a x y s t p q. (same_bands _ _ (p.0 ∙ sym q.0), p.1 ∙ sym q.1);
+    four_lines = λ κs a x y s t p q. (same_bands _ _ (p.0 ∙ sym q.0), p.1 ∙ sym q.1);
     one_line = λ κs a x y s t p q. (p.0 ∙ sym q.0, p.1 ∙ sym q.1);
   };
   hadamard = record {
     minus = λ κs a x y s t p q. p ∙ sym q;
     mix_sample = λ κs a x y s t p q. (p.0 ∙ sym q.0, (rw p.0 at p.1) ∙ sym (rw q.0 at q.1));
-    plus-minus = λ κs a x y s t p q. p ∙ sym q;
+    plus_minus = λ κs a x y s t p q. p ∙ sym q;
   };
   mixer = record {
     mix_rows = λ κs a x y s t p q. (p.0 ∙ sym q.0, (rw p.0 at p.1) ∙ sym (rw q.0 at q.1));
@@ -86,8 +86,8 @@ library_determined = record {
     verdict = λ κs a x y s t p q. p ∙ sym q;
     judge_then = λ κs a x y s t p q. p ∙ sym q;
     judge_two = λ κs a x y s t p q. p ∙ sym q;
-    write-interleaved = λ κs a x y s t p q. (p.0 ∙ sym q.0, p.1 ∙ sym q.1);
-    read-interleaved = λ κs a x y s t p q. (p.0 ∙ sym q.0, p.1 ∙ sym q.1);
+    write_interleaved = λ κs a x y s t p q. (p.0 ∙ sym q.0, p.1 ∙ sym q.1);
+    read_interleaved = λ κs a x y s t p q. (p.0 ∙ sym q.0, p.1 ∙ sym q.1);
     channel_number = λ κs a x y s t p q. p ∙ sym q;
     channel = λ κs a x y s t p q. p ∙ sym q;
   };
@@ -118,7 +118,7 @@ library_determined = record {
     rings_hold = λ κs a x y s t p q. p ∙ sym q;
     rings_of = λ κs a x y s t p q. p ∙ sym q;
     room_ok = λ κs a x y s t p q. p ∙ sym q;
-    in-range = λ κs a x y s t p q. p ∙ sym q;
+    in_range = λ κs a x y s t p q. p ∙ sym q;
     lengths = λ κs a x y s t p q. p ∙ sym q;
     store_ok = λ κs a x y s t p q. p ∙ sym q;
     work_ok = λ κs a x y s t p q. p ∙ sym q;
@@ -153,7 +153,7 @@ library_determined = record {
     line_rows = λ κs a x y s t p q. (p.0 ∙ sym q.0, p.1 ∙ sym q.1);
     make_line = λ κs a x y s t p q. (p.0 ∙ sym q.0, p.1 ∙ sym q.1);
     read_line = λ κs a x y s t p q. p ∙ sym q;
-    output-fits = λ κs a x y s t p q. p ∙ sym q;
+    output_fits = λ κs a x y s t p q. p ∙ sym q;
     work_for = λ κs a x y s t p q. p ∙ sym q;
     three_at = λ κs a x y s t p q. (p.0 ∙ sym q.0, p.1 ∙ sym q.1);
   };

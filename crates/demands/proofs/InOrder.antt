@@ -111,11 +111,11 @@ module _ (m : Model) (w : Memory) (p : Play) (begins : Begins m w.unit) (e : ans
       }
 
   module _ (marks : List Bool) where
-    store-fits : store_ok m (memory_at m o marks).unit (length w.store) ≡ true
-    store-fits = eq-eqb _ _ (tells m w p begins e).store
+    store_fits : store_ok m (memory_at m o marks).unit (length w.store) ≡ true
+    store_fits = eq-eqb _ _ (tells m w p begins e).store
 
-    work-fits : work_ok m (memory_at m o marks).unit (length (joined_rows (rows_at m o marks))) ≡ true
-    work-fits = eq-eqb _ _ (work_long m o h marks)
+    work_fits : work_ok m (memory_at m o marks).unit (length (joined_rows (rows_at m o marks))) ≡ true
+    work_fits = eq-eqb _ _ (work_long m o h marks)
 
     ranged : in_range m (memory_at m o marks).unit ≡ true
     ranged = still_in_range m w p begins e (filters_at m o marks) marks
@@ -125,7 +125,7 @@ module _ (m : Model) (w : Memory) (p : Play) (begins : Begins m w.unit) (e : ans
     read_ok i b t =
         let free : not (at marks i) ≡ true = ap not (t.open_still i (omega arith) (omega arith)) in
         done m o h marks t.legal (read_job i)
-        (all_ok m (memory_at m o marks).unit _ (ltb i m.lines) (not (at marks i)) ranged (join_and store-fits work-fits) (lt-ltb i m.lines b) free)
+        (all_ok m (memory_at m o marks).unit _ (ltb i m.lines) (not (at marks i)) ranged (join_and store_fits work_fits) (lt-ltb i m.lines b) free)
 
     -- all reads are marked
     reads_set : (k : ℕ) → m.lines ≤ k → Upto k marks → all_read m (memory_at m o marks).unit ≡ true
@@ -136,7 +136,7 @@ module _ (m : Model) (w : Memory) (p : Play) (begins : Begins m w.unit) (e : ans
     mix_ok t =
         let free : not (at marks (mix_mark m)) ≡ true = ap not (t.open_still (mix_mark m) (omega arith) (omega arith)) in
         done m o h marks t.legal mix_job
-        (all_ok m (memory_at m o marks).unit _ true (all_read m (memory_at m o marks).unit && not (at marks (mix_mark m))) ranged work-fits refl
+        (all_ok m (memory_at m o marks).unit _ true (all_read m (memory_at m o marks).unit && not (at marks (mix_mark m))) ranged work_fits refl
         (join_and (reads_set (mix_mark m) (omega arith) t) free))
 
     line_ok : (i : ℕ) → i < m.lines → (t : Upto (line_mark m i) marks) → Marks m o h marks t.legal (line_job i)
@@ -144,7 +144,7 @@ module _ (m : Model) (w : Memory) (p : Play) (begins : Begins m w.unit) (e : ans
     line_ok i b t =
         let free : not (at marks (line_mark m i)) ≡ true = ap not (t.open_still (line_mark m i) (omega arith) (omega arith)) in
         done m o h marks t.legal (line_job i)
-        (all_ok m (memory_at m o marks).unit _ (ltb i m.lines) (at marks (mix_mark m) && not (at marks (line_mark m i))) ranged work-fits (lt-ltb i m.lines b)
+        (all_ok m (memory_at m o marks).unit _ (ltb i m.lines) (at marks (mix_mark m) && not (at marks (line_mark m i))) ranged work_fits (lt-ltb i m.lines b)
         (join_and (t.done (mix_mark m) (omega arith)) free))
 
     output_ok : (t : Upto (output_mark m) marks) → Marks m o h marks t.legal output_job
@@ -152,7 +152,7 @@ module _ (m : Model) (w : Memory) (p : Play) (begins : Begins m w.unit) (e : ans
     output_ok t =
         let free : not (at marks (output_mark m)) ≡ true = ap not (t.open_still (output_mark m) (omega arith) (omega arith)) in
         done m o h marks t.legal output_job
-        (all_ok m (memory_at m o marks).unit _ true (all_read m (memory_at m o marks).unit && not (at marks (output_mark m))) ranged work-fits refl
+        (all_ok m (memory_at m o marks).unit _ true (all_read m (memory_at m o marks).unit && not (at marks (output_mark m))) ranged work_fits refl
         (join_and (reads_set (output_mark m) (omega arith) t) free))
 
   -- ---- one after the other

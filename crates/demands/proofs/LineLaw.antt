@@ -87,11 +87,11 @@ module _ (m : Model) (i : ℕ) (h : i < m.lines) (l : ℕ) where
   -- ---- a frame that is accepted
 
   -- from u to v, which has its cursors moved, with the rows put; no frame is open then
-  frame-holds : (u v : UnitState) (store rows rings read : List Float) (a : Account) → Holds u store a → Lent m u (length store)
+  frame_holds : (u v : UnitState) (store rows rings read : List Float) (a : Account) → Holds u store a → Lent m u (length store)
       → length rows ≡ m.lines * u.settings.frame → read ≡ read_row m u i store
       → v.settings ≡ u.settings → v.cursors.lines ≡ all_moved u.settings.frame (lengths m u) u.cursors.lines → length v.held.marks ≡ jobs_len m → v.held.busy ≡ false
       → Holds v (put_rows u.settings.frame m.lines 0 (lengths m u) u.cursors.lines rows rings store) (traded a read (row u.settings.frame i rows))
-  frame-holds u v store rows rings read a inv lent e q vs vl vm vb =
+  frame_holds u v store rows rings read a inv lent e q vs vl vm vb =
       let line = inv.line in
       let t = ring_turn m i h u store lent line.lines line.equal rows rings e in
       let g = u.settings.frame in
@@ -114,9 +114,9 @@ module _ (m : Model) (i : ℕ) (h : i < m.lines) (l : ℕ) where
 
   -- ---- a call that leaves the store and the cursors
 
-  kept-holds : (u v : UnitState) (store : List Float) (a : Account) → Holds u store a → v.settings ≡ u.settings → v.cursors.lines ≡ u.cursors.lines
+  kept_holds : (u v : UnitState) (store : List Float) (a : Account) → Holds u store a → v.settings ≡ u.settings → v.cursors.lines ≡ u.cursors.lines
       → length v.held.marks ≡ jobs_len m → (v.held.busy ≡ true → marked v i ≡ true → a.waiting ≡ read_row m u i store) → Holds v store a
-  kept-holds u v store a inv vs vl vm w =
+  kept_holds u v store a inv vs vl vm w =
       let line = inv.line in
       record {
         line = record { lines = ap length vl ∙ line.lines; equal = rw vl line.equal; marks = vm };
@@ -125,19 +125,19 @@ module _ (m : Model) (i : ℕ) (h : i < m.lines) (l : ℕ) where
       }
 
   -- a frame that is opened has no mark, and one that is shut isn't open
-  opened-holds : (u : UnitState) (p : Play) (store : List Float) (a : Account) → Holds u store a → Holds (unit_opened m u p) store a
-  opened-holds u p store a inv =
-      kept-holds u (unit_opened m u p) store a inv refl refl (length-replicate (jobs_len m) false)
+  opened_holds : (u : UnitState) (p : Play) (store : List Float) (a : Account) → Holds u store a → Holds (unit_opened m u p) store a
+  opened_holds u p store a inv =
+      kept_holds u (unit_opened m u p) store a inv refl refl (length-replicate (jobs_len m) false)
       (λ b c. absurd (true≢false (sym c ∙ get_or-replicate (jobs_len m) i false false (omega arith))))
 
-  shut-holds : (u : UnitState) (store : List Float) (a : Account) → Holds u store a → Holds (unit_shut m u) store a
-  shut-holds u store a inv =
-      kept-holds u (unit_shut m u) store a inv refl refl (length-replicate (jobs_len m) false) (λ b c. absurd (true≢false (sym b)))
+  shut_holds : (u : UnitState) (store : List Float) (a : Account) → Holds u store a → Holds (unit_shut m u) store a
+  shut_holds u store a inv =
+      kept_holds u (unit_shut m u) store a inv refl refl (length-replicate (jobs_len m) false) (λ b c. absurd (true≢false (sym b)))
 
   -- another job than read i
   other_job : (u : UnitState) (k : ℕ) (store : List Float) (a : Account) {fs : List _} → Holds u store a → (i ≡ k → ⊥) → Holds (unit_marked u k fs) store a
   other_job u k store a {fs} inv apart =
-      kept-holds u (unit_marked u k fs) store a inv refl refl (length-set u.held.marks k true ∙ inv.line.marks)
+      kept_holds u (unit_marked u k fs) store a inv refl refl (length-set u.held.marks k true ∙ inv.line.marks)
       (λ b c. inv.waits b (sym (set_there u.held.marks k i apart) ∙ c))
 
   -- read i: its row waits
@@ -155,9 +155,9 @@ module _ (m : Model) (i : ℕ) (h : i < m.lines) (l : ℕ) where
 
   -- ---- a call answered a
 
-  memory-holds : (x : Answer) (new old : Memory) (b' b : Account) → (x ≡ Accepted → Holds new.unit new.store b') → Holds old.unit old.store b
+  memory_holds : (x : Answer) (new old : Memory) (b' b : Account) → (x ≡ Accepted → Holds new.unit new.store b') → Holds old.unit old.store b
       → Holds (accept x new old).unit (accept x new old).store (accept x b' b)
-  memory-holds x new old b' b p q = go (accepted x) refl
+  memory_holds x new old b' b p q = go (accepted x) refl
     where
       go : (y : Bool) → accepted x ≡ y → Holds (accept x new old).unit (accept x new old).store (accept x b' b)
       go true e = let r = is_accepted x e in rw r (p r)
@@ -182,35 +182,35 @@ module _ (m : Model) (i : ℕ) (h : i < m.lines) (l : ℕ) where
     Ends read put x = Holds x.memory.unit x.memory.store (accept x.answer (traded a read put) a)
 
     -- refused, it leaves all as it was
-    refused-holds : (read put : List Float) (due : Answer) (output : List Float) → accepted due ≡ false → Ends read put (refused due w output)
-    refused-holds read put due output n = rw (accept_no due (traded a read put) a n) inv
+    refused_holds : (read put : List Float) (due : Answer) (output : List Float) → accepted due ≡ false → Ends read put (refused due w output)
+    refused_holds read put due output n = rw (accept_no due (traded a read put) a n) inv
 
-    whole-holds : (p : Play) (output : List Float) → Then (whole p output)
+    whole_holds : (p : Play) (output : List Float) → Then (whole p output)
     unfolding ending noted noted_whole
-    whole-holds p output =
+    whole_holds p output =
         let r = frame_for m u p w.store in
         let f = u.settings.frame in
         whole_either m w output (Ends (row f i r.reads) (row f i r.lines.put)) p
         (λ d q.
         let t = whole_lent m u (length w.store) (length w.work) (length output) p d in
-        frame-holds u (moved_on m u (new_filters r) (count_for u p)) w.store r.lines.put r.output.rings (row f i r.reads) a inv t.lent
+        frame_holds u (moved_on m u (new_filters r) (count_for u p)) w.store r.lines.put r.output.rings (row f i r.reads) a inv t.lent
         (whole_put m u p w.store t.input) (whole_row u p w.store t.lent) refl refl inv.line.marks t.free)
         (λ d q. inv)
-        (λ n. refused-holds (row f i r.reads) (row f i r.lines.put) (whole_due m u p (length w.store) (length w.work) (length output)) output n)
+        (λ n. refused_holds (row f i r.reads) (row f i r.lines.put) (whole_due m u p (length w.store) (length w.work) (length output)) output n)
 
-    close-holds : (output : List Float) → Then (close output)
+    close_holds : (output : List Float) → Then (close output)
     unfolding ending noted
-    close-holds output =
+    close_holds output =
         let f = u.settings.frame in
         let r = rows_of m.lines f w.work in
         close-either m w output (Ends a.waiting (row f i r.mixed))
         (λ d q.
         let t = close_lent m u (length w.store) (length w.work) (length output) d in
-        frame-holds u (unit_closed m u) w.store r.mixed r.rings a.waiting a inv t.lent
+        frame_holds u (unit_closed m u) w.store r.mixed r.rings a.waiting a inv t.lent
         (work_rows m f w.work t.work_long).mixed (inv.waits t.busy (done_at u.held.marks i t.done (omega (arith, inv.line.marks))))
         refl refl (length-replicate (jobs_len m) false) refl)
-        (λ d q. shut-holds u w.store a inv)
-        (λ n. refused-holds a.waiting (row f i r.mixed) (judged_close m u (length w.store) (length w.work) (length output)) output n)
+        (λ d q. shut_holds u w.store a inv)
+        (λ n. refused_holds a.waiting (row f i r.mixed) (judged_close m u (length w.store) (length w.work) (length output)) output n)
 
     -- a job
     abbrev Stands : Memory → Type 0
@@ -223,9 +223,9 @@ module _ (m : Model) (i : ℕ) (h : i < m.lines) (l : ℕ) where
         let l = split_and (store_ok m u (length w.store)) (work_ok m u (length w.work)) t.slices_ok in
         (record { range = t.range; long = eqb-true _ _ l.0 }, eqb-true _ _ l.1)
 
-    read-holds : (j : ℕ) → Then (job (read_job j))
+    read_holds : (j : ℕ) → Then (job (read_job j))
     unfolding ending noted
-    read-holds j = go (eqb j i) refl
+    read_holds j = go (eqb j i) refl
       where
         left : List Float
         left = row u.settings.frame i (rows_of m.lines u.settings.frame (job_work m w (read_job j))).reads
@@ -245,19 +245,19 @@ module _ (m : Model) (i : ℕ) (h : i < m.lines) (l : ℕ) where
         go : (b : Bool) → eqb j i ≡ b → Then (job (read_job j))
         go true e =
             let q : j ≡ i = eqb-true j i e in
-            rw e (memory-holds (answer m w (job (read_job j))) then w new a (λ d. this_job u j w.store left a inv (its_row q d)) inv)
+            rw e (memory_holds (answer m w (job (read_job j))) then w new a (λ d. this_job u j w.store left a inv (its_row q d)) inv)
         go false e =
             let apart : i ≡ j → ⊥ = λ q. true≢false (sym (eq-eqb j i (sym q)) ∙ e) in
             rw e (accept_either Stands (answer m w (job (read_job j))) (λ d. other_job u j w.store a inv apart) (λ n. inv))
 
-    job-holds : (j : Job) → Then (job j)
+    job_holds : (j : Job) → Then (job j)
     unfolding ending noted
-    job-holds (read_job j) = read-holds j
-    job-holds mix_job =
+    job_holds (read_job j) = read_holds j
+    job_holds mix_job =
         accept_either Stands (answer m w (job mix_job)) (λ e. other_job u (mix_mark m) w.store a inv (λ q. omega arith)) (λ n. inv)
-    job-holds (line_job j) =
+    job_holds (line_job j) =
         accept_either Stands (answer m w (job (line_job j))) (λ e. other_job u (line_mark m j) w.store a inv (λ q. omega arith)) (λ n. inv)
-    job-holds output_job =
+    job_holds output_job =
         accept_either Stands (answer m w (job output_job)) (λ e. other_job u (output_mark m) w.store a inv (λ q. omega arith)) (λ n. inv)
 
   -- ---- several frames at once
@@ -273,28 +273,28 @@ module _ (m : Model) (i : ℕ) (h : i < m.lines) (l : ℕ) where
     Through w a input output x =
         Holds x.ending.memory.unit x.ending.memory.store (noted_frames m i t coefficients f x.done w a input output)
 
-    singly-holds : (n : ℕ) (w : Memory) (a : Account) (input output : List Float) → Holds w.unit w.store a
+    singly_holds : (n : ℕ) (w : Memory) (a : Account) (input output : List Float) → Holds w.unit w.store a
         → Through w a input output (singly m t coefficients f n w input output)
     unfolding ending noted noted_frames singly
-    singly-holds zero w a input output inv = inv
-    singly-holds (suc n) w a input output inv =
+    singly_holds zero w a input output inv = inv
+    singly_holds (suc n) w a input output inv =
         let p = apply t coefficients (take f input) in
         let o = take f output in
         let e = at_once m w p o in
-        let then = whole-holds w a inv p o in
+        let then = whole_holds w a inv p o in
         accept_either (Through w a input output) e.answer
-        (λ d. singly-holds n e.memory (noted_whole m i w a p o) (drop f input) (drop f output) then)
+        (λ d. singly_holds n e.memory (noted_whole m i w a p o) (drop f input) (drop f output) then)
         (λ r. rw (not_noted w a p o r) at then)
 
-  frames-holds : (w : Memory) (a : Account) (t : Times) (coefficients input output : List Float) → Holds w.unit w.store a
+  frames_holds : (w : Memory) (a : Account) (t : Times) (coefficients input output : List Float) → Holds w.unit w.store a
       → let c = frames t coefficients input output in
       Holds (after m w c).unit (after m w c).store (noted m i w a c)
   unfolding ending noted noted_frames
-  frames-holds w a t coefficients input output inv =
+  frames_holds w a t coefficients input output inv =
       let f = w.unit.settings.frame in
       accept_either (Through t coefficients f w a input output)
       (frames_due m w t coefficients input output)
-      (λ d. singly-holds t coefficients f (length input / f) w a input output inv) (λ r. inv)
+      (λ d. singly_holds t coefficients f (length input / f) w a input output inv) (λ r. inv)
 
   -- ---- requests
 
@@ -334,25 +334,25 @@ module _ (m : Model) (i : ℕ) (h : i < m.lines) (l : ℕ) where
   left-lent own mine = refl
   left-lent (other xs) mine = refl
 
-  plays-holds : (w : Memory) (a : Account) (r : Request) → Plays r → Holds w.unit w.store a
+  plays_holds : (w : Memory) (a : Account) (r : Request) → Plays r → Holds w.unit w.store a
       → Holds (request m w r).unit (request m w r).store (entered w a r)
   unfolding request ending noted
-  plays-holds w a r (plays_whole p output k) inv = whole-holds (seen w own k) a inv p output
-  plays-holds w a r (plays_frames t coefficients input output k) inv = frames-holds (seen w own k) a t coefficients input output inv
-  plays-holds w a r (plays_start p s k) inv =
+  plays_holds w a r (plays_whole p output k) inv = whole_holds (seen w own k) a inv p output
+  plays_holds w a r (plays_frames t coefficients input output k) inv = frames_holds (seen w own k) a t coefficients input output inv
+  plays_holds w a r (plays_start p s k) inv =
       accept_either (λ (v : Memory). Holds v.unit (left s v.store w.store) a) (answer m (seen w s k) (start p))
-      (λ e. rw (left-lent s w.store) (opened-holds w.unit p w.store a inv))
+      (λ e. rw (left-lent s w.store) (opened_holds w.unit p w.store a inv))
       (λ n. rw (left-lent s w.store) inv)
-  plays-holds w a r (plays_job j k) inv = job-holds (seen w own k) a inv j
-  plays-holds w a r (plays_close output k) inv = close-holds (seen w own k) a inv output
-  plays-holds w a r (plays_abandon s k) inv =
+  plays_holds w a r (plays_job j k) inv = job_holds (seen w own k) a inv j
+  plays_holds w a r (plays_close output k) inv = close_holds (seen w own k) a inv output
+  plays_holds w a r (plays_abandon s k) inv =
       accept_either (λ (v : Memory). Holds v.unit (left s v.store w.store) a) (answer m (seen w s k) abandon)
-      (λ e. rw (left-lent s w.store) (shut-holds w.unit w.store a inv))
+      (λ e. rw (left-lent s w.store) (shut_holds w.unit w.store a inv))
       (λ n. rw (left-lent s w.store) inv)
 
   one_holds : (w : Memory) (a : Account) (r : Request) → Plays r ⊎ (declined m w r ≡ true) → Holds w.unit w.store a
       → Holds (request m w r).unit (request m w r).store (entered w a r)
-  one_holds w a r (inl p) inv = plays-holds w a r p inv
+  one_holds w a r (inl p) inv = plays_holds w a r p inv
   one_holds w a r (inr e) inv = rw (stays m w r e, nothing_entered w a r e) inv
 
   law : (w : Memory) (a : Account) (rs : List Request) → AllPlay m w rs → Holds w.unit w.store a

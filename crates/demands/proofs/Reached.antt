@@ -57,8 +57,8 @@ module _ (ls : List ℕ) where
   ring_at_lem : (k l : ℕ) (ms : List ℕ) → drop k ls ≡ l ∷ ms → get_or ls k 0 ≡ l
   ring_at_lem k l ms e = sym (get_or-drop k ls 0 0 ∙ ap (λ (j : ℕ). get_or ls j 0) (add-zero k)) ∙ ap (λ (x : List ℕ). get_or x 0 0) e
 
-  next-at : (k l : ℕ) (ms : List ℕ) → drop k ls ≡ l ∷ ms → drop (suc k) ls ≡ ms
-  next-at k l ms e = ap (λ (j : ℕ). drop j ls) (sym (add-one k)) ∙ sym (drop-drop 1 k ls) ∙ ap (drop 1) e
+  next_at : (k l : ℕ) (ms : List ℕ) → drop k ls ≡ l ∷ ms → drop (suc k) ls ≡ ms
+  next_at k l ms e = ap (λ (j : ℕ). drop j ls) (sym (add-one k)) ∙ sym (drop-drop 1 k ls) ∙ ap (drop 1) e
 
   fresh_from : (k j n : ℕ) (ms : List ℕ) → drop k ls ≡ ms → length ms ≡ n → all_from (λ i l. ltb 0 l) j ms ≡ true
       → all_from (λ i c. below (get_or ls i 0) c) k (replicate n (both 0)) ≡ true
@@ -68,7 +68,7 @@ module _ (ls : List ℕ) where
   fresh_from k j (suc n) (l ∷ ms) e q s =
       let here = split_and (ltb 0 l) _ s in
       let first = ap (ltb 0) (ring_at_lem k l ms e) ∙ here.0 in
-      join_and (join_and first first) (fresh_from (suc k) (suc j) n ms (next-at k l ms e) (omega arith) here.1)
+      join_and (join_and first first) (fresh_from (suc k) (suc j) n ms (next_at k l ms e) (omega arith) here.1)
 
   pub fresh_in : (n : ℕ) → length ls ≡ n → Some ls → cursors_in ls (replicate n (both 0)) ≡ true
   unfolding cursors_in

@@ -94,7 +94,7 @@ pub record FaceDetermined : Type 0 where
   pub job_output : DeterminedWith1 1 hall-job-output-kinds.ps hall-job-output-kinds.r hall-job-output-reads.Post (λ κs s. s.1.0.now)
   pub close : DeterminedWith3 3 hall-close-kinds.ps hall-close-kinds.r hall-close-reads.Post (λ κs s. s.1.0.now) (λ κs s. s.1.1.0.now) (λ κs s. s.1.1.1.0.now)
   pub abandon : DeterminedWith1 1 hall-abandon-kinds.ps hall-abandon-kinds.r hall-abandon-reads.Post (λ κs s. s.1.0.now)
-  pub filter-run : DeterminedWith1 1 hall-filter-run-kinds.ps hall-filter-run-kinds.r hall-filter-run-reads.Post (λ κs s. s.1.0.now)
+  pub filter_run : DeterminedWith1 1 hall-filter-run-kinds.ps hall-filter-run-kinds.r hall-filter-run-reads.Post (λ κs s. s.1.0.now)
   pub mix16 : DeterminedWith1 2 hall-mix16-kinds.ps hall-mix16-kinds.r hall-mix16-reads.Post (λ κs s. s.1.0.now)
   pub wave_read : Determined 1 hall-wave-read-kinds.ps hall-wave-read-kinds.r hall-wave-read-reads.Post
   pub wave_samples : DeterminedExit 2 hall-wave-samples-kinds.ps hall-wave-samples-kinds.r hall-wave-samples-reads.Post (λ κs s. s.1.1.0.now)

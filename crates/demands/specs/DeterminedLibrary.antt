@@ -269,7 +269,7 @@ pub record SamplesDetermined : Type 0 where
 pub record SearchDetermined : Type 0 where
   pub first_bad : Determined 1 search-first-bad-kinds.ps search-first-bad-kinds.r search-first-bad-reads.Post
   pub is_nothing : Determined 0 search-is-nothing-kinds.ps search-is-nothing-kinds.r search-is-nothing-reads.Post
-  pub all-finite : Determined 1 search-all-finite-kinds.ps search-all-finite-kinds.r search-all-finite-reads.Post
+  pub all_finite : Determined 1 search-all-finite-kinds.ps search-all-finite-kinds.r search-all-finite-reads.Post
 
 pub record DelayDetermined : Type 0 where
   pub fresh : DeterminedWith1 1 delay-fresh-kinds.ps delay-fresh-kinds.r delay-fresh-reads.Post (λ κs s. s.0.now)
@@ -296,13 +296,13 @@ pub record LanesDetermined : Type 0 where
   pub step : Determined 0 lanes-step-kinds.ps lanes-step-kinds.r lanes-step-reads.Post
 
 pub record BankDetermined : Type 0 where
-  pub four-lines : DeterminedWith1 1 bank-four-lines-kinds.ps bank-four-lines-kinds.r bank-four-lines-reads.Post (λ κs s. s.1.0.now)
+  pub four_lines : DeterminedWith1 1 bank-four-lines-kinds.ps bank-four-lines-kinds.r bank-four-lines-reads.Post (λ κs s. s.1.0.now)
   pub one_line : DeterminedWith1 1 bank-one-line-kinds.ps bank-one-line-kinds.r bank-one-line-reads.Post (λ κs s. s.1.0.now)
 
 pub record HadamardDetermined : Type 0 where
   pub minus : Determined 0 hadamard-minus-kinds.ps hadamard-minus-kinds.r hadamard-minus-reads.Post
   pub mix_sample : DeterminedWith1 2 hadamard-mix-sample-kinds.ps hadamard-mix-sample-kinds.r hadamard-mix-sample-reads.Post (λ κs s. s.1.0.now)
-  pub plus-minus : Determined 0 hadamard-plus-minus-kinds.ps hadamard-plus-minus-kinds.r hadamard-plus-minus-reads.Post
+  pub plus_minus : Determined 0 hadamard-plus-minus-kinds.ps hadamard-plus-minus-kinds.r hadamard-plus-minus-reads.Post
 
 pub record MixerDetermined : Type 0 where
   pub mix_rows : DeterminedWith1 1 mixer-mix-rows-kinds.ps mixer-mix-rows-kinds.r mixer-mix-rows-reads.Post (λ κs s. s.1.1.0.now)
@@ -329,8 +329,8 @@ pub record AudioBufferDetermined : Type 0 where
   pub verdict : Determined 0 audio-buffer-verdict-kinds.ps audio-buffer-verdict-kinds.r audio-buffer-verdict-reads.Post
   pub judge_then : Determined 0 audio-buffer-judge-then-kinds.ps audio-buffer-judge-then-kinds.r audio-buffer-judge-then-reads.Post
   pub judge_two : Determined 0 audio-buffer-judge-two-kinds.ps audio-buffer-judge-two-kinds.r audio-buffer-judge-two-reads.Post
-  pub write-interleaved : DeterminedWith1 2 audio-buffer-write-interleaved-kinds.ps audio-buffer-write-interleaved-kinds.r audio-buffer-write-interleaved-reads.Post (λ κs s. s.1.1.1.0.now)
-  pub read-interleaved : DeterminedWith1 2 audio-buffer-read-interleaved-kinds.ps audio-buffer-read-interleaved-kinds.r audio-buffer-read-interleaved-reads.Post (λ κs s. s.1.1.1.0.now)
+  pub write_interleaved : DeterminedWith1 2 audio-buffer-write-interleaved-kinds.ps audio-buffer-write-interleaved-kinds.r audio-buffer-write-interleaved-reads.Post (λ κs s. s.1.1.1.0.now)
+  pub read_interleaved : DeterminedWith1 2 audio-buffer-read-interleaved-kinds.ps audio-buffer-read-interleaved-kinds.r audio-buffer-read-interleaved-reads.Post (λ κs s. s.1.1.1.0.now)
   pub channel_number : Determined 0 audio-buffer-channel-number-kinds.ps audio-buffer-channel-number-kinds.r audio-buffer-channel-number-reads.Post
   pub channel : OneValue 1 audio-buffer-channel-kinds.ps audio-buffer-channel-kinds.r audio-buffer-channel-reads.Post (λ κs x. x.now)
 
@@ -361,7 +361,7 @@ pub record UnitDetermined : Type 0 where
   pub rings_hold : Determined 0 unit-rings-hold-kinds.ps unit-rings-hold-kinds.r unit-rings-hold-reads.Post
   pub rings_of : Determined 0 unit-rings-of-kinds.ps unit-rings-of-kinds.r unit-rings-of-reads.Post
   pub room_ok : Determined 0 unit-room-ok-kinds.ps unit-room-ok-kinds.r unit-room-ok-reads.Post
-  pub in-range : Determined 0 unit-in-range-kinds.ps unit-in-range-kinds.r unit-in-range-reads.Post
+  pub in_range : Determined 0 unit-in-range-kinds.ps unit-in-range-kinds.r unit-in-range-reads.Post
   pub lengths : Determined 0 unit-lengths-kinds.ps unit-lengths-kinds.r unit-lengths-reads.Post
   pub store_ok : Determined 0 unit-store-ok-kinds.ps unit-store-ok-kinds.r unit-store-ok-reads.Post
   pub work_ok : Determined 0 unit-work-ok-kinds.ps unit-work-ok-kinds.r unit-work-ok-reads.Post
@@ -396,7 +396,7 @@ pub record RowsDetermined : Type 0 where
   pub line_rows : DeterminedWith1 1 rows-line-rows-kinds.ps rows-line-rows-kinds.r rows-line-rows-reads.Post (λ κs s. s.1.1.1.1.1.0.now)
   pub make_line : DeterminedWith1 1 rows-make-line-kinds.ps rows-make-line-kinds.r rows-make-line-reads.Post (λ κs s. s.1.1.1.1.0.now)
   pub read_line : DeterminedExit 2 rows-read-line-kinds.ps rows-read-line-kinds.r rows-read-line-reads.Post (λ κs s. s.1.1.1.1.0.now)
-  pub output-fits : Determined 0 rows-output-fits-kinds.ps rows-output-fits-kinds.r rows-output-fits-reads.Post
+  pub output_fits : Determined 0 rows-output-fits-kinds.ps rows-output-fits-kinds.r rows-output-fits-reads.Post
   pub work_for : Determined 0 rows-work-for-kinds.ps rows-work-for-kinds.r rows-work-for-reads.Post
   pub three_at : DeterminedWith1 1 rows-three-at-kinds.ps rows-three-at-kinds.r rows-three-at-reads.Post (λ κs s. s.1.1.0.now)
 

@@ -27,9 +27,9 @@ none_over : (gs fs : List Filter) (k : ℕ) → length fs ≤ k → gs ++ drop k
 none_over gs fs k h = rw (drop_of_length-le fs h) (append-nil gs)
 
 -- what is asked of the memory lent to settle a frame, from what its rows ask
-pub settle-fits : (n f : ℕ) (v : Rings) (store work w output : ℕ) → FrameFits n f v store work → w ≡ work → output ≡ f
+pub settle_fits : (n f : ℕ) (v : Rings) (store work w output : ℕ) → FrameFits n f v store work → w ≡ work → output ≡ f
     → SettleFits n f v store w output
-settle-fits n f v store work w output h e o =
+settle_fits n f v store work w output h e o =
     record {
       lines = record { few = h.few; some = h.frame; small = h.small; rows_are = refl; rings = h.rings };
       rows = omega (arith, e, h.work_is);

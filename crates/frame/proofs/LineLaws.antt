@@ -33,8 +33,8 @@ module _ (f : ℕ) (ls : List ℕ) (cs : List Cursors) (len : ℕ) where
     here = rw (more n i h) at r
 
     -- the ring and the row of line i lie within what is lent
-    pub turn-fits : (b rows : ℕ) → Left n f i b rows → (a + get_or ls i 0 ≤ len) × (b + f ≤ rows)
-    turn-fits b rows l = (here.4, row_fits n f i b rows l h)
+    pub turn_fits : (b rows : ℕ) → Left n f i b rows → (a + get_or ls i 0 ≤ len) × (b + f ≤ rows)
+    turn_fits b rows l = (here.4, row_fits n f i b rows l h)
 
     -- a frame of line i is one that its ring takes
     pub moves : 0 < f → Moves (get_or ls i 0) (get_or cs i (both 0)) f

@@ -70,7 +70,7 @@ pub(crate) fn settle(
     store: &mut [f32],
 )
     requires lines_fit { LinesFit n f rings (length store.old) (length rows.now) }
-    requires allpass_value { lines_len n rings + length allpass.now ≡ length store.old }
+    requires allpass_fits { lines_len n rings + length allpass.now ≡ length store.old }
     ensures { store.new ≡ settled n f rings rows.now allpass.now store.old }
 {
     put_lines(n, f, rings, rows, store);

@@ -38,7 +38,7 @@ pub(crate) fn play_lines(
     rows: &mut [f32],
 ) -> [Filter; FILTERS]
     requires lines_fit { LinesFit n f rings (length store.now) (n * f) }
-    requires n_nonzero { (0 < n) × (length rows.old ≡ (places_of n f).output) }
+    requires rows_fit { (0 < n) × (length rows.old ≡ (places_of n f).output) }
     ensures value { result ≡ (line_rows n f factor tail fs (take f rows.old) (reads_of n f rings store.now)).filters ++ drop (filter_at n) fs }
     ensures rows_after { rows.new ≡ take f rows.old ++ (reads_of n f rings store.now ++ (line_rows n f factor tail fs (take f rows.old) (reads_of n f rings store.now)).put) }
 {
@@ -164,7 +164,7 @@ pub(crate) fn judge_frame(
     output: &mut [f32],
 ) -> Judged
     requires frame_fits { FrameFits n f rings (length store.old) (length work.old) }
-    requires output_len { (length output.old ≡ f) × (filter_at n + bands_len ≡ filters_len wall) }
+    requires output_and_filters { (length output.old ≡ f) × (filter_at n + bands_len ≡ filters_len wall) }
     ensures value { result ≡ judged_of (ran_with_room n f factor divisor tail rings fs store.old work.old output.old).stepped }
     ensures store_after { store.new ≡ (ran_with_room n f factor divisor tail rings fs store.old work.old output.old).store }
     ensures work_after { work.new ≡ (ran_with_room n f factor divisor tail rings fs store.old work.old output.old).work }

@@ -24,7 +24,7 @@ use Rattle.unit.specs.Range.{cursors_in, in_range, blank_open}
 use Rattle.unit.specs.Room.{rings_with, unit_rings, rings_hold, passes_are, rings_in, room_ok, lent_ok}
 use Rattle.judges.specs.Judges.{judged, judged_apply, judged_given, bad_input, store_ok, work_ok, given_ok, most_frames, frames_ok, judged_frames}
 use Rattle.unit.proofs.Laws.{work_is}
-use Rattle.unit.proofs.Ranges.{wall-holds, wall-passes}
+use Rattle.unit.proofs.Ranges.{wall_holds, wall-passes}
 
 -- what an accepted call tells, by its judgement alone
 pub record Told (m : Model) (u : UnitState) (slices line turn : Bool) : Type 0 where
@@ -42,10 +42,10 @@ told m u slices line turn e =
     record { range = p.0; slices_ok = q.0; line_ok = r.0; on_turn = (needed turn OutOfTurn Accepted refl r.1).0 }
 
 -- and of the state's parts and of the lengths
-pub record Due (u : UnitState) (Lent-ok : Bool) : Type 0 where
+pub record Due (u : UnitState) (Lent_ok : Bool) : Type 0 where
   pub sizes : (rate_ok u.settings.rate && frame_ok u.settings.frame) ≡ true
   pub cursors : (cursors_in (lengths wall u) u.cursors.lines && cursors_in wall.pass_lengths u.cursors.passes) ≡ true
-  pub lent : Lent-ok ≡ true
+  pub lent : Lent_ok ≡ true
 
 pub due_of : (u : UnitState) (lent line turn : Bool) → judged wall u lent line turn ≡ Accepted → Due u lent
 unfolding in_range
@@ -56,12 +56,12 @@ due_of u lent line turn e =
     record { sizes = s.0; cursors = (split_and cursors (u.held.busy || blank_open u) s.1).0; lent = d.slices_ok }
 
 -- with the lengths of a whole call there is room for its frame
-pub room_of : {Lent-ok : Bool} (u : UnitState) (store work output : ℕ) → Due u Lent-ok → lent_ok wall u store work output ≡ true
+pub room_of : {Lent_ok : Bool} (u : UnitState) (store work output : ℕ) → Due u Lent_ok → lent_ok wall u store work output ≡ true
     → room_ok wall u.settings.frame (unit_rings wall u) store work output ≡ true
 unfolding room_ok
 room_of u store work output d lent =
     let frame = (split_and (rate_ok u.settings.rate) (frame_ok u.settings.frame) d.sizes).1 in
-    join_and frame (join_and (join_and (wall-holds u (frame_of _ frame).hi) wall-passes) (join_and d.cursors lent))
+    join_and frame (join_and (join_and (wall_holds u (frame_of _ frame).hi) wall-passes) (join_and d.cursors lent))
 
 -- and the rings that the code asks for are the unit's
 pub rings_are : (u : UnitState) (store work output : ℕ) (r : Rings)
@@ -70,8 +70,8 @@ pub rings_are : (u : UnitState) (store work output : ℕ) (r : Rings)
 unfolding room_ok
 rings_are u store work output r room e = e ∙ rw (split_and (frame_ok u.settings.frame) _ room).0 refl
 
-work-holds : (f work : ℕ) → work ≡ work_len wall f → f ≤ work
-work-holds f work e = omega (arith, work_is f)
+work_holds : (f work : ℕ) → work ≡ work_len wall f → f ≤ work
+work_holds f work e = omega (arith, work_is f)
 
 -- ---- an apply
 
@@ -114,14 +114,14 @@ pub record ApplyFits (u : UnitState) (t : Times) (coefficients input store work 
   pub holds : u.settings.frame ≤ work
   pub what : Given u t coefficients input (lent_ok wall u store work output)
 
-pub apply-fits : (u : UnitState) (t : Times) (coefficients input : List Float) (store work output : ℕ)
+pub apply_fits : (u : UnitState) (t : Times) (coefficients input : List Float) (store work output : ℕ)
     → judged_apply wall u t coefficients input store work output ≡ Accepted → ApplyFits u t (length coefficients) (length input) store work output
-apply-fits u t coefficients input store work output e =
+apply_fits u t coefficients input store work output e =
     let g = given_of u t coefficients input (lent_ok wall u store work output) e in
     let lent = g.due.lent in
     record {
       room = room_of u store work output g.due lent;
-      holds = work-holds u.settings.frame work (eqb-true _ _ (split_and _ _ (split_and (store_ok wall u store) _ lent).1).0);
+      holds = work_holds u.settings.frame work (eqb-true _ _ (split_and _ _ (split_and (store_ok wall u store) _ lent).1).0);
       what = g;
     }
 
@@ -195,7 +195,7 @@ frames_fit u t coefficients input store work output e =
       sizes = d.sizes;
       count = rw (d.sizes, h.times) refl;
       room = room_of u store work u.settings.frame d (join_and (eq-eqb _ _ h.rings) (join_and (eq-eqb _ _ h.rows) same));
-      holds = work-holds u.settings.frame work h.rows;
+      holds = work_holds u.settings.frame work h.rows;
     }
 
 -- what room for a frame says of a unit's rings and of the memory lent

@@ -12,7 +12,7 @@ use lib.Seq.{get_or-drop, set-get_or}
 use lib.Ieee.{Float, nan}
 use Rattle.samples.specs.Binary32.{◌⊗◌}
 use Rattle.samples.specs.Lists.{over}
-use Rattle.samples.proofs.Lists.{over_none, over-length, over-again, over_next, over_stored, before_at, inside_at, after_at}
+use Rattle.samples.proofs.Lists.{over_none, over-length, over_again, over_next, over_stored, before_at, inside_at, after_at}
 use Rattle.samples.proofs.Rows.{row_ends}
 use Rattle.hadamard.specs.Mix.{minus, plus_minus, sum_from, mix_at, joined, each}
 use Rattle.hadamard.specs.Rows.{column, mixed_row}
@@ -50,10 +50,10 @@ module _ (d f : ℕ) (g : ℕ → Float) (w : List Float) (fits : d + f ≤ leng
   laid-length = over-length d w f (each f g) (each_length f g) fits
 
   -- a second pass over the row
-  pub laid-again : {w1 w2 : List Float} (h k : ℕ → Float) → w1 ≡ row_laid d f g w → w2 ≡ row_laid d f h w1 → ((t : ℕ) → t < f → h t ≡ k t)
+  pub laid_again : {w1 w2 : List Float} (h k : ℕ → Float) → w1 ≡ row_laid d f g w → w2 ≡ row_laid d f h w1 → ((t : ℕ) → t < f → h t ≡ k t)
       → w2 ≡ row_laid d f k w
   unfolding row_laid
-  laid-again h k e1 e2 e = e2 ∙ rw e1 (over-again d w f (each f g) (each_length f g) fits (each f h) (each_length f h)) ∙ laid_ext d f h k w e
+  laid_again h k e1 e2 e = e2 ∙ rw e1 (over_again d w f (each f g) (each_length f g) fits (each f h) (each_length f h)) ∙ laid_ext d f h k w e
 
 -- ---- a turn of a pass: the sample at t is stored
 
@@ -122,7 +122,7 @@ module _ (r d f c s : ℕ) (w₀ w : List Float) (fits : d + f ≤ length w₀) 
   pub summed_more : {w' : List Float} {m : Bool} → m ≡ minus r (c + 1)
       → w' ≡ pass (plus_minus m) d (s + f) f w → w' ≡ row_laid d f (summed r 1 f d f (c + 1) w₀) w₀
   unfolding pass
-  summed_more q e' = laid-again d f _ w₀ fits _ _ e (rw q at e') next
+  summed_more q e' = laid_again d f _ w₀ fits _ _ e (rw q at e') next
 
 -- ---- the first n rows summed: row 0 copied, and rows 1 to m added
 
@@ -141,7 +141,7 @@ module _ (n m f r d : ℕ) (w w1 w2 : List Float) (one_more : n ≡ suc m) (lo :
 
   pub row-summed : w2 ≡ row_laid d f (row_sum r n f w) w
   unfolding pass summed row_sum
-  row-summed = rw one_more (laid-again d f _ w fits _ _ copied added (λ t h i. sum_from r 1 (first t h i) (rest t h i)))
+  row-summed = rw one_more (laid_again d f _ w fits _ _ copied added (λ t h i. sum_from r 1 (first t h i) (rest t h i)))
 
 -- ---- one mixed row: the sum, and all times k
 
@@ -149,7 +149,7 @@ pub row-mixed : (n f r d : ℕ) (k : Float) (w w1 w2 : List Float) → d + f ≤
     → w1 ≡ row_laid d f (row_sum r n f w) w → w2 ≡ pass (λ x y. x ⊗ k) d d f w1 → w2 ≡ mixed_at n f k r d w
 unfolding row_laid pass mixed_row mix_at row_sum mixed_at
 row-mixed n f r d k w w1 w2 fits summed scaled =
-    laid-again d f _ w fits _ _ summed scaled (λ t h. ap (λ (x : Float). x ⊗ k) (rw summed (laid_at d f _ w fits t h)))
+    laid_again d f _ w fits _ _ summed scaled (λ t h. ap (λ (x : Float). x ⊗ k) (rw summed (laid_at d f _ w fits t h)))
 
 -- ---- one mixed row more
 

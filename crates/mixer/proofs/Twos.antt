@@ -19,7 +19,7 @@ use Rattle.hadamard.specs.Rows.{column, mixed_row}
 use Rattle.mixer.specs.Passes.{row_laid, rows_laid, pass, crossed, summed, summed_two, row_sum, mixed_at}
 use Rattle.hadamard.proofs.Columns.{column_ext}
 use Rattle.hadamard.proofs.Laws.{row_ext}
-use Rattle.mixer.proofs.Passes.{laid_none, laid_ext, laid_before, laid_at, laid-after, laid-length, laid-again, stored, summed-none, summed_next, rows_more}
+use Rattle.mixer.proofs.Passes.{laid_none, laid_ext, laid_before, laid_at, laid-after, laid-length, laid_again, stored, summed-none, summed_next, rows_more}
 use Rattle.mixer.proofs.Signs.{same_right, same_down, other}
 
 -- ---- a row made before another
@@ -70,22 +70,22 @@ module _ (d e f : ℕ) (g h : ℕ → Float) (w : List Float) (apart : d + f ≤
   unfolding rows_laid
   again_low g' =
       laid_swap d e f f g' h (row_laid d f g w) apart room
-      ∙ ap (row_laid e f h) (laid-again d f g w (omega arith) g' g' refl refl (λ t l. refl))
+      ∙ ap (row_laid e f h) (laid_again d f g w (omega arith) g' g' refl refl (λ t l. refl))
 
   again_high : (h' : ℕ → Float) → row_laid e f h' (rows_laid d e f g h w) ≡ rows_laid d e f g h' w
   unfolding rows_laid
-  again_high h' = laid-again e f h (row_laid d f g w) room h' h' refl refl (λ t l. refl)
+  again_high h' = laid_again e f h (row_laid d f g w) room h' h' refl refl (λ t l. refl)
 
 two_ext : (d e f : ℕ) (g h g' h' : ℕ → Float) (w : List Float) → ((t : ℕ) → t < f → g t ≡ g' t) → ((t : ℕ) → t < f → h t ≡ h' t)
     → rows_laid d e f g h w ≡ rows_laid d e f g' h' w
 unfolding rows_laid
 two_ext d e f g h g' h' w p q = ap (row_laid e f h) (laid_ext d f g g' w p) ∙ laid_ext e f h h' (row_laid d f g' w) q
 
-two-again : (d e f : ℕ) (g h g₁ h₁ g' h' : ℕ → Float) (w w1 w2 : List Float) → d + f ≤ e → e + f ≤ length w
+two_again : (d e f : ℕ) (g h g₁ h₁ g' h' : ℕ → Float) (w w1 w2 : List Float) → d + f ≤ e → e + f ≤ length w
     → w1 ≡ rows_laid d e f g h w → w2 ≡ rows_laid d e f g₁ h₁ w1 → ((t : ℕ) → t < f → g₁ t ≡ g' t) → ((t : ℕ) → t < f → h₁ t ≡ h' t)
     → w2 ≡ rows_laid d e f g' h' w
 unfolding rows_laid
-two-again d e f g h g₁ h₁ g' h' w w1 w2 apart fits e1 e2 p q =
+two_again d e f g h g₁ h₁ g' h' w w1 w2 apart fits e1 e2 p q =
     e2 ∙ rw e1 (ap (row_laid e f h₁) (again_low d e f g h w apart fits g₁) ∙ again_high d e f g₁ h w apart fits h₁) ∙ two_ext d e f g₁ h₁ g' h' w p q
 
 -- ---- a turn of the loop that adds two rows to both
@@ -169,7 +169,7 @@ module _ (r d e f n a b : ℕ) (w₀ w : List Float) (er : r % 2 ≡ 0) (en : n 
       let m4 : not m ≡ minus (r + 1) (2 + suc n) = ap not q ∙ sym (other r (n + 2) er ec) ∙ ap (minus (r + 1)) c' in
       let low : (t : ℕ) → t < f → get_or w (d + t) nan ≡ summed r 2 (f + f) d f n w₀ t = λ t l. rw is (two_low d e f _ _ w₀ apart fits t l) in
       let high : (t : ℕ) → t < f → get_or w (e + t) nan ≡ summed (r + 1) 2 (f + f) e f n w₀ t = λ t l. rw is (two_high d e f _ _ w₀ apart fits t l) in
-      rw k (two-again d e f _ _ _ _ _ _ w₀ w w' apart fits is made
+      rw k (two_again d e f _ _ _ _ _ _ w₀ w w' apart fits is made
       (λ t l. rw (first t l, second t l, low t l) (two_next r d f n w₀ t m1 m2))
       (λ t l. rw (first t l, second t l, high t l) (two_next (r + 1) e f n w₀ t m3 m4)))
 
@@ -222,7 +222,7 @@ module _ (n m f r d e : ℕ) (k : Float) (w w1 w2 w3 w4 w5 : List Float) (two_mo
 
   all_added : w3 ≡ rows_laid d e f (row_sum r n f w) (row_sum (r + 1) n f w) w
   unfolding summed_two
-  all_added = rw two_more (two-again d e f _ _ _ _ _ _ w w2 w3 apart fits begun added low_sum high_sum)
+  all_added = rw two_more (two_again d e f _ _ _ _ _ _ w w2 w3 apart fits begun added low_sum high_sum)
 
   low_scaled : w4 ≡ rows_laid d e f (λ t. row_sum r n f w t ⊗ k) (row_sum (r + 1) n f w) w
   unfolding pass

@@ -21,7 +21,7 @@ use Rattle.stages.proofs.RowLaws.{copied_all}
 use Rattle.rows.specs.Workers.{WorkFits}
 use Rattle.rows.specs.Rows.{joined_rows}
 use Rattle.frame.proofs.RowJoins.{copy_join}
-use Rattle.rows.proofs.RowsOf.{work-fits}
+use Rattle.rows.proofs.RowsOf.{work_fits}
 use Rattle.judges.proofs.Fits.{Due}
 use Rattle.machine.specs.Jobs.{open_laid}
 
@@ -30,11 +30,11 @@ pub record OpenFits (u : UnitState) (store work : ℕ) : Type 0 where
   pub fits : WorkFits wall u.settings.frame work
   pub rings : store ≡ store_len wall (lengths wall u)
 
-pub open-fits : (u : UnitState) (store work : ℕ) → Due u (store_ok wall u store && work_ok wall u work) → OpenFits u store work
-open-fits u store work d =
+pub open_fits : (u : UnitState) (store work : ℕ) → Due u (store_ok wall u store && work_ok wall u work) → OpenFits u store work
+open_fits u store work d =
     let l = split_and (store_ok wall u store) (work_ok wall u work) d.lent in
     let frame = (split_and (rate_ok u.settings.rate) (frame_ok u.settings.frame) d.sizes).1 in
-    record { fits = work-fits u.settings.frame work (join_and frame l.1); rings = eqb-true _ _ l.0 }
+    record { fits = work_fits u.settings.frame work (join_and frame l.1); rings = eqb-true _ _ l.0 }
 
 -- 34 rows of +0, by their kinds
 rows_of_zeros : (f : ℕ) (rings : List Float)

@@ -10,7 +10,7 @@ use lib.Seq.{take_at, drop_at, drop-drop, take_all, take-take, length-take-le}
 use borrow.Rule.Slice.PartMut.{put_mid}
 use Rattle.samples.specs.Binary32.{+0}
 use Rattle.samples.proofs.Turns.{more}
-use Rattle.samples.proofs.Lists.{in-front, to_end, over_last}
+use Rattle.samples.proofs.Lists.{in_front, to_end, over_last}
 use Rattle.samples.proofs.Rows.{Left, all_left, row_fits, row_done}
 use Rattle.stages.specs.Lines.{plus, sum_rows}
 use Rattle.stages.specs.Steps.{added_first}
@@ -28,8 +28,8 @@ unfolding sum_rows
 sum_more f n s rows = refl
 
 module _ (n f at : ℕ) (front X : List Float) (h : n * f ≤ at) where
-  pub sum-holds : (w : List Float) → length w ≡ at + f → front ≡ take at w → X ≡ sum_rows f n (drop at w) (take (n * f) front) → Summing n f at front X 0 0 w
-  sum-holds w l e x = (all_left n f 0 (n * f) (zero-add (n * f)), l, sym e, rw sub-zero (sym x))
+  pub sum_holds : (w : List Float) → length w ≡ at + f → front ≡ take at w → X ≡ sum_rows f n (drop at w) (take (n * f) front) → Summing n f at front X 0 0 w
+  sum_holds w l e x = (all_left n f 0 (n * f) (zero-add (n * f)), l, sym e, rw sub-zero (sym x))
 
   module _ (i b : ℕ) (rows : List Float) where
     pub sum-turn : (last : List Float) → i < n → Summing n f at front X i b rows → last ≡ added_first f (take (length rows - b) (drop b rows))
@@ -42,7 +42,7 @@ module _ (n f at : ℕ) (front X : List Float) (h : n * f ≤ at) where
         let row = sum b at f rows before g in
         let long = sum_long b at f rows before g in
         let first : length (take at rows) ≡ at = length-take-le at rows (omega arith) in
-        let read : take f (drop b reads) ≡ take f (drop b rows) = rw (← v.2, take-take (n * f) at rows h) (in-front b rows f (n * f) fits) in
+        let read : take f (drop b reads) ≡ take f (drop b rows) = rw (← v.2, take-take (n * f) at rows h) (in_front b rows f (n * f) fits) in
         let here : take f (drop at rows) ≡ drop at rows = take_all f (drop at rows) (simp length-drop (omega (arith, v.1))) in
         let ex = rw (more n i hi, sum_more f (n - (i + 1)) (drop at rows) (drop b reads), read, drop-drop f b reads) at v.3 in
         rw (v.1, added_in b at f rows before g last (rw v.1 at q), over_last at rows row (omega (arith, v.1, long))) (

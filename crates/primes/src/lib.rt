@@ -173,8 +173,8 @@ fn prime_at(index: usize) -> u32
 
 // The least delay of a line at a time and a rate in range.
 fn least(time: f32, rate: u32) -> u32
-    requires fact_1 { time_ok time ≡ true }
-    requires fact_2 { rate ≤ highest_rate }
+    requires time_fits { time_ok time ≡ true }
+    requires rate_fits { rate ≤ highest_rate }
     ensures { (result ≡ delay_min time rate) × (result ≤ 192000) }
 {
     let sum = SUM_OF_TIME * time * std::num::nearest_u32_to_f32(rate);

@@ -142,8 +142,8 @@ put_beside at f xs ys e h =
     rw z (take_at (take at xs ++ ys) (drop f (drop at xs)) (at + f) l, drop_at (take at xs ++ ys) (drop f (drop at xs)) (at + f) l)
 
 -- frame k of those that a slice of so many floats holds lies in it
-pub frame-fits : (k f long : ℕ) → k < long / f → k * f + f ≤ long
-frame-fits k f long h = omega (arith, suc-mul k f, mul-le-mul_right f h, div-mul-le_self long f)
+pub frame_fits : (k f long : ℕ) → k < long / f → k * f + f ≤ long
+frame_fits k f long h = omega (arith, suc-mul k f, mul-le-mul_right f h, div-mul-le_self long f)
 
 -- before the first of them
 pub none_done : (t : Times) (coefficients : List Float) (f n : ℕ) (w : Memory) (input output : List Float)

@@ -42,8 +42,8 @@ fn next_frame(
     work: &mut [f32],
     output: &mut [f32],
 ) -> Next
-    requires output_value { room_ok wall f (rings_at ls last) (length store.old) (length work.old) (length output.old) ≡ true }
-    requires f_in_bounds { (at + f ≤ length input.now) × (f ≤ length work.old) }
+    requires room { room_ok wall f (rings_at ls last) (length store.old) (length work.old) (length output.old) ≡ true }
+    requires frame_lent { (at + f ≤ length input.now) × (f ≤ length work.old) }
     ensures value { result ≡ (next_frame f ls last fs (take f (drop at input.now)) store.old work.old output.old).next }
     ensures store_after { store.new ≡ (next_frame f ls last fs (take f (drop at input.now)) store.old work.old output.old).store }
     ensures work_after { work.new ≡ (next_frame f ls last fs (take f (drop at input.now)) store.old work.old output.old).work }

@@ -10,7 +10,7 @@ use lib.Seq.{take-add, length-take-le}
 use borrow.Rule.Slice.PartMut.{put_mid}
 use Rattle.samples.specs.Lists.{over, row, set_row}
 use Rattle.samples.proofs.Turns.{lent}
-use Rattle.samples.proofs.Lists.{cut, lent_long, first_of, come_back, over_front, over-length, over_here, over-again}
+use Rattle.samples.proofs.Lists.{cut, lent_long, first_of, come_back, over_front, over-length, over_here, over_again}
 use Rattle.samples.proofs.Rows.{row_ends, row_lies, row-set}
 use Rattle.iir.specs.declared.Filter.{Filter}
 use Rattle.iir.specs.Runs.{bands_out, bands_end}
@@ -90,8 +90,8 @@ module _ (f i : ℕ) (w : List Float) (h : i < 16) (fits : WorkFits wall f (leng
     w₁-long = ap length w₁-is ∙ over-length b w f x out_long room
 
     -- set again
-    set-again : (s : List Float) → length s ≡ f → over b s w₁ ≡ over b s w
-    set-again s l = ap (over b s) w₁-is ∙ over-again b w f x out_long room s l
+    set_again : (s : List Float) → length s ≡ f → over b s w₁ ≡ over b s w
+    set_again s l = ap (over b s) w₁-is ∙ over_again b w f x out_long room s l
 
     abbrev lent-all : List Float
     lent-all = take (b + f - 0) (drop 0 w₁)
@@ -108,7 +108,7 @@ module _ (f i : ℕ) (w : List Float) (h : i < 16) (fits : WorkFits wall f (leng
         let g : b + f ≤ length w₁ = omega (arith, w₁-long, room) in
         let here : take f (drop b w₁) ≡ out = ap (λ (l : List Float). take f (drop b l)) w₁-is ∙ over_here b w f x out_long room ∙ out_is in
         let first : take f (drop 0 w₁) ≡ take f w = ap (take f) w₁-is ∙ over_front b w x (omega (arith, room)) f (omega arith) in
-        added_in 0 b f w₁ before g y e ∙ set-again (sum 0 b f w₁ before g) (sum_long 0 b f w₁ before g) ∙ rw (here, first) refl
+        added_in 0 b f w₁ before g y e ∙ set_again (sum 0 b f w₁ before g) (sum_long 0 b f w₁ before g) ∙ rw (here, first) refl
 
     pub line_laid_lem : y ≡ cond tail lent-all (added_first f lent-all)
         → (gs ≡ line_ends wall f i fs true w) × (put_mid 0 (b + f - 0) w₁ y ≡ line_laid wall f i tail fs true w)

@@ -26,19 +26,19 @@ use Rattle.rows.specs.Fits.{work_for}
 use Rattle.rows.specs.Workers.{WorkFits}
 use Rattle.rows.specs.Rows.{rows_of}
 use Rattle.unit.proofs.Totals.{total_next, total_front}
-use Rattle.rows.proofs.RowsOf.{work-fits}
+use Rattle.rows.proofs.RowsOf.{work_fits}
 use Rattle.rows.proofs.LineLaid.{read_set, read_at}
 use Rattle.rows.specs.Reads.{read_in, read_laid, line_room}
 use Rattle.unit.proofs.Ranges.{cursors_at, holds_at}
 
 -- there is such a line, and the memory fits
-pub line-fits : (f : ℕ) (ls : List ℕ) (i store work : ℕ) → line_room wall f ls i store work ≡ true
+pub line_fits : (f : ℕ) (ls : List ℕ) (i store work : ℕ) → line_room wall f ls i store work ≡ true
     → (i < 16) × WorkFits wall f work × (rings_hold f ls ≡ true) × (store ≡ store_len wall ls)
-line-fits f ls i store work e =
+line_fits f ls i store work e =
     let p = split_and (ltb i 16) _ e in
     let q = split_and (work_for wall f work) _ p.1 in
     let r = split_and (rings_hold f ls) (eqb store (store_len wall ls)) q.1 in
-    (ltb-true i 16 p.0, work-fits f work q.0, r.0, eqb-true store (store_len wall ls) r.1)
+    (ltb-true i 16 p.0, work_fits f work q.0, r.0, eqb-true store (store_len wall ls) r.1)
 
 -- ---- the row of line i
 
@@ -57,8 +57,8 @@ module _ (f : ℕ) (v : Rings) (i : ℕ) (store w : List Float) (h : i < 16) (al
   l = get_or ls i 0
 
   -- its ring holds a frame
-  pub ring-holds : (f ≤ l) × (l ≤ 65536)
-  ring-holds = holds_at f ls rings i (omega arith)
+  pub ring_holds : (f ≤ l) × (l ≤ 65536)
+  ring_holds = holds_at f ls rings i (omega arith)
 
   -- it lies within the store
   pub ring_within : start + l ≤ length store
@@ -85,12 +85,12 @@ module _ (f : ℕ) (v : Rings) (i : ℕ) (store w : List Float) (h : i < 16) (al
   unfolding rows_of stretch
   read_given in-rings =
       let row' = row f i (take (16 * f) (drop f w)) in
-      let within = cursors_at ls v.lines.cursors in-rings i (omega (arith, fits.some, ring-holds.0)) in
+      let within = cursors_at ls v.lines.cursors in-rings i (omega (arith, fits.some, ring_holds.0)) in
       let lr : length (stretch ls i store) ≡ l = part_long start store l ring_within in
       let lo : length row' ≡ f = ap length (sym (read_at f i w h fits)) ∙ part_long (f + i * f) w f row_within in
       let m : Moves l c f = record {
-        ready = record { some = omega (arith, fits.some, ring-holds.0); small = ring-holds.1; reads = within.read; writes = within.write };
+        ready = record { some = omega (arith, fits.some, ring_holds.0); small = ring_holds.1; reads = within.read; writes = within.write };
         some = fits.some;
-        fits = ring-holds.0;
+        fits = ring_holds.0;
       } in
       (get_ok (stretch ls i store) row' c (rw (lr, lo) m)).1 ∙ ap (read (stretch ls i store) c.read.0) lo

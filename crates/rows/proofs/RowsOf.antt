@@ -33,8 +33,8 @@ pub work_parts : (f work : ℕ) → work ≡ work_len wall f → work ≡ (place
 unfolding work_len
 work_parts f work e = omega arith
 
-pub work-fits : (f work : ℕ) → work_for wall f work ≡ true → WorkFits wall f work
-work-fits f work e =
+pub work_fits : (f work : ℕ) → work_for wall f work ≡ true → WorkFits wall f work
+work_fits f work e =
     let p = split_and (frame_ok f) (eqb work (work_len wall f)) e in
     let d = frame_of f p.0 in
     record { some = omega (arith, d.lo); short = d.hi; fours = d.fours; work_is = work_parts f work (eqb-true _ _ p.1) }

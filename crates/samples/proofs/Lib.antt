@@ -3,3 +3,4 @@ pub mod Turns
 pub mod Lists
 pub mod Rows
 pub mod Stacked
+pub mod Clauses

@@ -35,8 +35,8 @@ module _ {A : Type 0} (a : ℕ) (w : List A) (k : ℕ) where
   cut = sym (take-append-drop k (drop a w)) ∙ ap (λ (l : List A). take k (drop a w) ++ l) (drop-drop k a w)
 
   -- they lie within the first m
-  pub in-front : (m : ℕ) → a + k ≤ m → take k (drop a (take m w)) ≡ take k (drop a w)
-  in-front m h =
+  pub in_front : (m : ℕ) → a + k ≤ m → take k (drop a (take m w)) ≡ take k (drop a w)
+  in_front m h =
       let e : m ≡ a + (m - a) = omega arith in
       ap (λ (j : ℕ). take k (drop a (take j w))) e ∙ ap (take k) (drop-take a w (m - a)) ∙ take-take k (m - a) (drop a w) (omega arith)
 
@@ -178,9 +178,9 @@ module _ {A : Type 0} (a : ℕ) (w : List A) (k : ℕ) (ys : List A) (e : length
         rw (get_or-drop (a + k) (over a ys w), get_or-drop (a + k) w, past) at there
 
     -- q in their place
-    pub over-again : (q : List A) → length q ≡ k → over a q (over a ys w) ≡ over a q w
+    pub over_again : (q : List A) → length q ≡ k → over a q (over a ys w) ≡ over a q w
     unfolding over
-    over-again q l =
+    over_again q l =
         let past : drop (a + length q) (over a ys w) ≡ drop (a + length q) w = rw l over-left in
         λ i. over_front a w ys (omega arith) a (omega arith) i ++ (q ++ past i)
 

@@ -8,7 +8,7 @@ use native.Mathlib.Omega.{arith}
 use lib.ListN.{length, take, drop, length-take, length-drop, take-append-drop}
 use lib.Seq.{take-add, drop-drop, length-take-le}
 use Rattle.samples.specs.Lists.{over, row, set_row}
-use Rattle.samples.proofs.Lists.{cut, in-front, part_long, over-after, over_within}
+use Rattle.samples.proofs.Lists.{cut, in_front, part_long, over-after, over_within}
 
 -- one row more
 pub next_row : (n f : ℕ) → suc n * f ≡ f + n * f
@@ -43,7 +43,7 @@ module _ {A : Type 0} (f : ℕ) where
   module _ (a n i : ℕ) (w : List A) (h : i < n) where
     pub row_lies : take f (drop (a + i * f) w) ≡ row f i (take (n * f) (drop a w))
     row_lies =
-        sym (row_at i (take (n * f) (drop a w)) ∙ in-front (i * f) (drop a w) f (n * f) (row_ends i n f h) ∙ ap (take f) (drop-drop (i * f) a w))
+        sym (row_at i (take (n * f) (drop a w)) ∙ in_front (i * f) (drop a w) f (n * f) (row_ends i n f h) ∙ ap (take f) (drop-drop (i * f) a w))
 
     pub row-set : (r : List A) → length r ≡ f → a + n * f ≤ length w
         → over (a + i * f) r w ≡ take a w ++ (set_row f i r (take (n * f) (drop a w)) ++ drop (a + n * f) w)

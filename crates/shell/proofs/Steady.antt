@@ -54,13 +54,13 @@ steady_through u (tail store work ∷ ps) s = steady_through (tail_ends u store 
 
 -- ---- and nothing but its samples refuses what it is given
 
-in-range : (u : UnitState) → Steady u → in_range wall u ≡ true
+steady_in_range : (u : UnitState) → Steady u → in_range wall u ≡ true
 unfolding in_range rate_ok frame_ok unmarked blank_filters blank_open nine plus_zero of_bits
-in-range u s = rw (s.lines_in_lem, s.passes_in, s.set_to, s.shut)
+steady_in_range u s = rw (s.lines_in_lem, s.passes_in, s.set_to, s.shut)
 
 ready : (u : UnitState) → Steady u → (ready_due u ≡ Accepted) × (tail_due u ≡ Accepted)
 unfolding judged lengths_from total store_len work_len
-ready u s = let r = in-range u s in (rw (r, s.set_to, s.shut), rw (r, s.set_to, s.shut))
+ready u s = let r = steady_in_range u s in (rw (r, s.set_to, s.shut), rw (r, s.set_to, s.shut))
 
 pub only_samples : OnlySamples
 only_samples ps bytes =

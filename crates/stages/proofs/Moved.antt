@@ -38,11 +38,11 @@ four-moved ring c r =
 
 -- such cursors are within a ring as long as the first, and n fours more move them on
 module _ {l l' : ℕ} {c c' : Cursors} (r : Ready l c) (el : l' ≡ l) (ec : c' ≡ moved_by 4 l c) where
-  next-ready : Ready l' c'
-  next-ready = rw (el, ec) (moved_ready l c r 4)
+  next_ready : Ready l' c'
+  next_ready = rw (el, ec) (moved_ready l c r 4)
 
-  next-moved : (n : ℕ) → moved_by (4 * n) l' c' ≡ moved_by (4 * suc n) l c
-  next-moved n =
+  next_moved : (n : ℕ) → moved_by (4 * n) l' c' ≡ moved_by (4 * suc n) l c
+  next_moved n =
       let e : 4 + 4 * n ≡ 4 * suc n = omega arith in
       rw (el, ec, moved_on l c r 4 (4 * n), e) refl
 
@@ -56,5 +56,5 @@ pass-moved (suc n) s row x y =
     let mx = four-moved s.x s.xs rx in
     let my = four-moved s.y s.ys ry in
     let next = stage_end s (four_of row) in
-    let rest = pass-moved n next (drop 4 row) (ok_judged _ _ (next-ready rx l.x mx)) (ok_judged _ _ (next-ready ry l.y my)) in
-    (rest.0 ∙ next-moved rx l.x mx n, rest.1 ∙ next-moved ry l.y my n)
+    let rest = pass-moved n next (drop 4 row) (ok_judged _ _ (next_ready rx l.x mx)) (ok_judged _ _ (next_ready ry l.y my)) in
+    (rest.0 ∙ next_moved rx l.x mx n, rest.1 ∙ next_moved ry l.y my n)

@@ -100,9 +100,9 @@ unfolding rings_hold
 holds_all f ls e = rings_short f 0 ls e
 
 -- of the wall unit's lines
-pub wall-holds : (u : UnitState) → u.settings.frame ≤ 1024 → rings_hold u.settings.frame (lengths wall u) ≡ true
+pub wall_holds : (u : UnitState) → u.settings.frame ≤ 1024 → rings_hold u.settings.frame (lengths wall u) ≡ true
 unfolding rings_hold
-wall-holds u h = lengths_hold wall u.settings 16 0 0 (λ (i : ℕ). omega (arith, delay_range i)) h
+wall_holds u h = lengths_hold wall u.settings 16 0 0 (λ (i : ℕ). omega (arith, delay_range i)) h
 
 -- and its allpass rings
 pub wall-passes : passes_are wall wall.pass_lengths ≡ true
@@ -124,10 +124,10 @@ passes_same (a ∷ b ∷ c ∷ d ∷ []) l e =
 passes_same (a ∷ b ∷ c ∷ d ∷ x ∷ ls) l e = absurd (omega arith)
 
 -- a test of the lengths that stands behind a test of the frame may take them for those of a frame in range
-pub in-range-lengths : (ls : List ℕ) (f : ℕ) (cs : List Cursors) (rate passes blank : Bool)
+pub in_range_lengths : (ls : List ℕ) (f : ℕ) (cs : List Cursors) (rate passes blank : Bool)
     → ((rate && frame_ok f) && ((cursors_in (cond (frame_ok f) ls (replicate 16 0)) cs && passes) && blank))
     ≡ ((rate && frame_ok f) && ((cursors_in ls cs && passes) && blank))
-in-range-lengths ls f cs rate passes blank = go rate (frame_ok f) refl
+in_range_lengths ls f cs rate passes blank = go rate (frame_ok f) refl
   where
     go : (a b : Bool) → frame_ok f ≡ b
         → ((a && b) && ((cursors_in (cond b ls (replicate 16 0)) cs && passes) && blank)) ≡ ((a && b) && ((cursors_in ls cs && passes) && blank))

@@ -10,7 +10,7 @@ use lib.Dec.{leb, eqb}
 use lib.ListN.{length, take, drop, length-append, length-drop, take-append-drop}
 use lib.Seq.{take-append-le, drop-append-le, length-take-le}
 use borrow.Author.Tests.{leb-true, le-leb}
-use Rattle.samples.proofs.Lists.{in-front}
+use Rattle.samples.proofs.Lists.{in_front}
 use Rattle.wire.specs.Wire.{value_of}
 use Rattle.wave.specs.declared.FormatMet.{FormatMet}
 use Rattle.wave.specs.declared.FormatMet.TheVariants.{NotYet, Met}
@@ -169,7 +169,7 @@ reads_alike file other t e fits same =
     let read : reading other ≡ Taken t
     = ap reading (sym that) ∙ taken_alike front (drop n file) (drop n other) t (omega arith) (rw that fits) (ap reading this ∙ e) in
     let part : (l : List ℕ) → take t.len (drop t.first (take n l)) ≡ take t.len (drop t.first l)
-    = λ l. in-front t.first l t.len n (omega arith) in (
+    = λ l. in_front t.first l t.len n (omega arith) in (
       read,
       data_is other t read ∙ sym (part other) ∙ ap (λ (l : List ℕ). take t.len (drop t.first l)) same ∙ part file ∙ sym (data_is file t e),
     )

@@ -31,9 +31,9 @@ module _ (file : List ℕ) (met : FormatMet) (at : ℕ) where
         pub not_supported : let_by met (drop at file) ≡ false → walk 0 met at (drop at file) ≡ Unsupported at
         not_supported e = turn file met at ∙ rw (le-leb 8 (length (drop at file)) h, whole, other, e) refl
 
-        pub next-turn : {after : FormatMet} {next : ℕ} → let_by met (drop at file) ≡ true → after ≡ met_after met (drop at file)
+        pub next_turn : {after : FormatMet} {next : ℕ} → let_by met (drop at file) ≡ true → after ≡ met_after met (drop at file)
             → next ≡ at + span_of (drop at file) → walk 0 after next (drop next file) ≡ walk 0 met at (drop at file)
-        next-turn e m n =
+        next_turn e m n =
             (λ j. walk 0 (m j) (n j) (drop (n j) file))
             ∙ sym (turn file met at ∙ rw (le-leb 8 (length (drop at file)) h, whole, other, e) refl)
 

@@ -1,5 +1,4 @@
--- `allpass::pass_stage` meets its contract. The invariant: the parts fit, and what the fours that are left leave of w, from the cursors
--- as they are now, is what all of them leave of the w given. Assumes nothing.
+-- `allpass::pass_stage` meets its contract. Assumes nothing.
 use native.Mathlib.Omega.{arith}
 use native.Mathlib.Nat.{sub-zero}
 use Prim.Native.Nat.{ℕ, suc, ◌+◌, ◌-◌, ◌/◌, ◌≤◌}

@@ -1,5 +1,5 @@
--- `allpass::pass_stage` meets its contract. The invariant: the parts fit, and what the fours that are left leave of w, from the cursors
--- as they are now, is what all of them leave of the w given. Assumes nothing.
+-- `allpass::pass_stage`. The invariant: the parts fit, and what the fours that are left leave of w, from the cursors as they are now, is what all
+-- of them leave of the w given. Assumes nothing.
 use Prim.Native.Nat.{◌+◌, ◌-◌, ◌/◌, ◌≤◌}
 use mathlib.Core.Path.{◌≡◌}
 use lib.ListN.{length}

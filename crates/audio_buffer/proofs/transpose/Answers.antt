@@ -1,5 +1,4 @@
--- `audio_buffer::transpose` meets its contract. The invariant of both loops: what is done, before what is left of this column and the
--- columns after it, is all columns. Assumes nothing.
+-- `audio_buffer::transpose` meets its contract. Assumes nothing.
 use borrow.Author.Rules.{rules}
 use native.Mathlib.Omega.{arith}
 use mathlib.Core.Path.{◌≡◌, refl, ap, ◌∙◌}

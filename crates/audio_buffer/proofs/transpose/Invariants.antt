@@ -1,5 +1,5 @@
--- `audio_buffer::transpose` meets its contract. The invariant of both loops: what is done, before what is left of this column and the
--- columns after it, is all columns. Assumes nothing.
+-- `audio_buffer::transpose`. The invariant of both loops: what is done, before what is left of this column and the columns after it, is all
+-- columns. Assumes nothing.
 use mathlib.Core.Path.{◌≡◌}
 use mathlib.Core.List.{◌++◌}
 use Prim.Native.Nat.{◌+◌, ◌-◌, ◌*◌, ◌≤◌}

@@ -15,7 +15,7 @@ frames c = c.args.time ⊗ c.nearest_u32_to_f32.result ⊘ c.nearest_u32_to_f32-
 upto : (c : goal.After-nearest_u32_to_f32-2) → Upto (frames c) 4800000 1
 upto c =
     rw (c.nearest_u32_to_f32.ensures, c.nearest_u32_to_f32-2.ensures)
-    (frames_upto c.args.time c.args.rate c.args.frame (time_upto c.args.time c.requires.fact_1) c.requires.fact_2.0 c.requires.fact_2.1 c.requires.fact_2.2)
+    (frames_upto c.args.time c.args.rate c.args.frame (time_upto c.args.time c.requires.time_fits) c.requires.sizes_fit.0 c.requires.sizes_fit.1 c.requires.sizes_fit.2)
 
 pub truncating_f32_to_u64-whole-requires : goal.truncating_f32_to_u64-whole-requires
 truncating_f32_to_u64-whole-requires c = let cut = cut_asks (frames c) 4800000 (omega arith) (upto c) in record { lower_bound = cut.0; upper_bound = cut.1 }

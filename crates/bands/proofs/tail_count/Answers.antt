@@ -18,7 +18,7 @@ pub overflow_cast-frame : goal.overflow_cast-frame
 overflow_cast-frame c = let k = (known (goal.at.overflow_cast-frame c).Then-is_accepted).frames in omega arith
 
 pub frames_in-frames-requires : goal.frames_in-frames-requires
-frames_in-frames-requires c = let k = known (goal.at.frames_in-frames-requires c).Then-is_accepted in record { fact_1 = rw c.largest.ensures k.time; fact_2 = (k.rates.hi, k.frames.lo, k.frames.hi) }
+frames_in-frames-requires c = let k = known (goal.at.frames_in-frames-requires c).Then-is_accepted in record { time_fits = rw c.largest.ensures k.time; sizes_fit = (k.rates.hi, k.frames.lo, k.frames.hi) }
 
 -- twice the frames is the count
 twice : (c : goal.After-frames_in-frames) → let a = c.args in to_z w32 (2 * c.frames_in-frames.result) ≡ pos (count_of a.t a.rate a.frame)

@@ -15,9 +15,9 @@ bank_lines b = refl
 pub returns : goal.returns
 returns c =
     let same = bank_lines c.args.b in
-    let ends = rw (c.by_band.ensures, same) at c.run_rows-g.ensures.result_value in
+    let ends = rw (c.by_band.ensures, same) at c.run_rows-g.ensures.value in
     let outs = rw (c.by_band.ensures, same) at c.run_rows-g.ensures.rows_after in
     record {
-      result_value = rw (c.bands_at.ensures, c.bands_at-2.ensures, c.bands_at-3.ensures, c.bands_at-4.ensures) ends;
+      value = rw (c.bands_at.ensures, c.bands_at-2.ensures, c.bands_at-3.ensures, c.bands_at-4.ensures) ends;
       rows_after = outs;
     }

@@ -2,11 +2,11 @@
 use mathlib.Core.Path.{refl, ap, ◌∙◌}
 use mathlib.Core.Bool.{Bool}
 use Rattle.frame.specs.Steps.{stepped_on, left_by}
-use Rattle.frame.proofs.FrameParts.{settle-fits}
+use Rattle.frame.proofs.FrameParts.{settle_fits}
 use Rattle.frame.proofs.wall_close.Goals as goal
 
 pub finish_frame-ok-requires : goal.finish_frame-ok-requires
-finish_frame-ok-requires c = let p = c.requires in settle-fits _ _ _ _ _ _ _ p.fits refl p.out
+finish_frame-ok-requires c = let p = c.requires in settle_fits _ _ _ _ _ _ _ p.fits refl p.out
 
 pub stepped_on-requires : goal.stepped_on-requires
 stepped_on-requires c = let p = c.requires in (p.short, p.within)

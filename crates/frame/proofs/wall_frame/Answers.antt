@@ -5,7 +5,7 @@ use Rattle.frame.specs.Steps.{stepped_on, left_by}
 use Rattle.frame.proofs.wall_frame.Goals as goal
 
 pub judge_frame-r-requires : goal.judge_frame-r-requires
-judge_frame-r-requires c = let p = c.requires in record { frame_fits = p.fits; output_len = (p.out, refl) }
+judge_frame-r-requires c = let p = c.requires in record { frame_fits = p.fits; output_and_filters = (p.out, refl) }
 
 pub stepped_on-requires : goal.stepped_on-requires
 stepped_on-requires c = let p = c.requires in (p.short, p.within)

@@ -1,4 +1,4 @@
--- `hadamard::mix_at` meets its contract. The invariant: the columns from c on, onto the sum so far, give the whole sum. Assumes nothing.
+-- `hadamard::mix_at` meets its contract. Assumes nothing.
 use native.Mathlib.Omega.{arith}
 use mathlib.Core.Path.{ap, ◌∙◌}
 use Prim.Native.Nat.{◌≤◌}

@@ -1,4 +1,4 @@
--- `hadamard::mix_at` meets its contract. The invariant: the columns from c on, onto the sum so far, give the whole sum. Assumes nothing.
+-- `hadamard::mix_at`. The invariant: the columns from c on, onto the sum so far, give the whole sum. Assumes nothing.
 use mathlib.Core.Path.{◌≡◌}
 use Prim.Native.Nat.{◌≤◌}
 use lib.ListN.{length, drop}

@@ -1,4 +1,4 @@
--- `hadamard::mix_column` meets its contract. The invariant: the first r numbers are the mix's, the rest are as they were. Assumes nothing.
+-- `hadamard::mix_column` meets its contract. Assumes nothing.
 use borrow.Author.Rules.{rules}
 use native.Mathlib.Omega.{arith}
 use mathlib.Core.Path.{refl, sym, ◌∙◌}

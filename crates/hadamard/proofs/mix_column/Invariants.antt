@@ -1,4 +1,4 @@
--- `hadamard::mix_column` meets its contract. The invariant: the first r numbers are the mix's, the rest are as they were. Assumes nothing.
+-- `hadamard::mix_column`. The invariant: the first r numbers are the mix's, the rest are as they were. Assumes nothing.
 use mathlib.Core.Path.{◌≡◌}
 use mathlib.Core.List.{◌++◌}
 use Prim.Native.Nat.{◌≤◌}

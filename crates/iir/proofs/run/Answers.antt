@@ -1,5 +1,4 @@
--- `iir::run` meets its contract. The invariant: what is done, then what the filter as it is now makes of what is left, is what comes out of
--- the whole row, and so of the filter after it. Assumes nothing.
+-- `iir::run` meets its contract. Assumes nothing.
 use native.Mathlib.Omega.{arith}
 use mathlib.Core.Path.{sym, ◌∙◌}
 use Prim.Native.Nat.{◌≤◌, ◌<◌}

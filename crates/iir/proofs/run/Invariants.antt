@@ -1,5 +1,5 @@
--- `iir::run` meets its contract. The invariant: what is done, then what the filter as it is now makes of what is left, is what comes out of
--- the whole row, and so of the filter after it. Assumes nothing.
+-- `iir::run`. The invariant: what is done, then what the filter as it is now makes of what is left, is what comes out of the whole row, and so of
+-- the filter after it. Assumes nothing.
 use mathlib.Core.Path.{◌≡◌}
 use mathlib.Core.List.{◌++◌}
 use Prim.Native.Nat.{◌≤◌, ◌-◌}

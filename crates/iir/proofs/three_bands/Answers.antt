@@ -1,5 +1,4 @@
--- `iir::three_bands` meets its contract. The invariant: as of one run, through all three: a sample passes from one run to the next.
--- Assumes nothing.
+-- `iir::three_bands` meets its contract. Assumes nothing.
 use native.Mathlib.Omega.{arith}
 use mathlib.Core.Path.{sym, ◌∙◌}
 use Prim.Native.Nat.{◌≤◌, ◌<◌}

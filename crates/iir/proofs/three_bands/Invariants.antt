@@ -1,5 +1,4 @@
--- `iir::three_bands` meets its contract. The invariant: as of one run, through all three: a sample passes from one run to the next.
--- Assumes nothing.
+-- `iir::three_bands`. The invariant: as of one run, through all three: a sample passes from one run to the next. Assumes nothing.
 use mathlib.Core.Path.{◌≡◌}
 use mathlib.Core.List.{◌++◌}
 use Prim.Native.Nat.{◌≤◌, ◌<◌, ◌-◌, ◌*◌, ◌^◌}

@@ -11,7 +11,7 @@ use Rattle.unit.specs.Layout.{wall, mix_mark}
 use Rattle.judges.specs.Judges.{work_ok}
 use Rattle.judges.specs.Marks.{marked, all_read}
 use Rattle.judges.specs.Turns.{judged_mix}
-use Rattle.rows.proofs.RowsOf.{work-fits}
+use Rattle.rows.proofs.RowsOf.{work_fits}
 use Rattle.unit.specs.Outcome.{outcome}
 use Rattle.judges.proofs.Fits.{due_of}
 use Rattle.unit.proofs.Outcomes.{refused, let_by}
@@ -36,7 +36,7 @@ mix_rows-requires c =
     let u = of_state a.s in
     let work = length a.work.now in
     let through = let_by _ (judged_mix wall u work) _ c.judge_mix-answer.ensures c.is_accepted.ensures (ap not c.if-not-is_accepted.false) in
-    work-fits u.settings.frame work (work_for_lem u work (due_of u (work_ok wall u work) true (u.held.busy && (all_read wall u && not (marked u (mix_mark wall)))) (is_accepted _ through)))
+    work_fits u.settings.frame work (work_for_lem u work (due_of u (work_ok wall u work) true (u.held.busy && (all_read wall u && not (marked u (mix_mark wall)))) (is_accepted _ through)))
 
 pub returns : goal.returns
 returns c =

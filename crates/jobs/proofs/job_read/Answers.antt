@@ -15,13 +15,13 @@ use Rattle.unit.specs.declared.Rings.{Rings}
 use Rattle.unit.specs.Layout.{wall, lengths}
 use Rattle.unit.specs.Range.{cursors_in}
 use Rattle.unit.specs.Room.{rings_with, unit_rings, rings_hold}
-use Rattle.unit.proofs.Ranges.{wall-holds}
+use Rattle.unit.proofs.Ranges.{wall_holds}
 use Rattle.samples.specs.Sizes.{rate_ok, frame_ok}
 use Rattle.judges.specs.Judges.{store_ok, work_ok}
 use Rattle.judges.specs.Marks.{marked}
 use Rattle.judges.specs.Turns.{judged_read}
 use Rattle.rows.specs.Fits.{work_for}
-use Rattle.rows.proofs.RowsOf.{work-fits}
+use Rattle.rows.proofs.RowsOf.{work_fits}
 use Rattle.rows.specs.Reads.{line_room, read_laid}
 use Rattle.unit.specs.Outcome.{outcome}
 use Rattle.judges.proofs.Fits.{Due, due_of}
@@ -81,7 +81,7 @@ module _ (p : goal.Else-not-is_accepted) where
   framed = (split_and (rate_ok u.settings.rate) (frame_ok u.settings.frame) due.sizes).1
 
   hold : rings_hold u.settings.frame (lengths wall u) ≡ true
-  hold = wall-holds u (frame_of _ framed).hi
+  hold = wall_holds u (frame_of _ framed).hi
 
   its_rings : cond (frame_ok u.settings.frame) (unit_rings wall u) (rings_with wall u (replicate 16 0)) ≡ unit_rings wall u
   its_rings = rw framed refl
@@ -101,7 +101,7 @@ returns c =
     let e = c.judge_read-answer.ensures in
     let cursors = (split_and (cursors_in (lengths wall v) v.cursors.lines) (cursors_in wall.pass_lengths v.cursors.passes) (due (goal.at.returns c).Else-not-is_accepted).cursors).0 in
     let rings = c.rings_of.ensures ∙ its_rings (goal.at.returns c).Else-not-is_accepted in
-    let row = read_work_lem v a.work.now _ (room (goal.at.returns c).Else-not-is_accepted) a.line a.store.now _ (few (goal.at.returns c).Else-not-is_accepted) (hold (goal.at.returns c).Else-not-is_accepted) (eqb-true _ _ (lent (goal.at.returns c).Else-not-is_accepted).0) (work-fits v.settings.frame (work (goal.at.returns c).Else-not-is_accepted) (frames (goal.at.returns c).Else-not-is_accepted)) cursors
+    let row = read_work_lem v a.work.now _ (room (goal.at.returns c).Else-not-is_accepted) a.line a.store.now _ (few (goal.at.returns c).Else-not-is_accepted) (hold (goal.at.returns c).Else-not-is_accepted) (eqb-true _ _ (lent (goal.at.returns c).Else-not-is_accepted).0) (work_fits v.settings.frame (work (goal.at.returns c).Else-not-is_accepted) (frames (goal.at.returns c).Else-not-is_accepted)) cursors
     (c.read_line.ensures
     ∙ ap (λ (k : Rings). read_laid wall v.settings.frame k a.line (line_room wall v.settings.frame k.lines.lengths a.line (store (goal.at.returns c).Else-not-is_accepted) (work (goal.at.returns c).Else-not-is_accepted)) a.store.now a.work.now) rings) in
     let q = quiet_let_by due' _ (memory_done wall w (read_job a.line)) w _ e (let_by _ due' _ e c.is_accepted.ensures (ap not c.if-not-is_accepted.false))

@@ -1,4 +1,4 @@
--- `levels::add` meets its contract. The invariant: what is done, before what is left mixed, is the whole mixed. Assumes nothing.
+-- `levels::add`. The invariant: what is done, before what is left mixed, is the whole mixed. Assumes nothing.
 use borrow.Author.Rules.{rules}
 use native.Mathlib.Omega.{arith}
 use mathlib.Core.Path.{◌≡◌, sym, ◌∙◌}

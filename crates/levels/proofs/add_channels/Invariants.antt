@@ -1,4 +1,4 @@
--- `levels::add_channels` meets its contract. The invariant: the channels that are left, added to the row, give what all give. Assumes nothing.
+-- `levels::add_channels`. The invariant: the channels that are left, added to the row, give what all give. Assumes nothing.
 use borrow.Author.Rules.{rules}
 use native.Mathlib.Omega.{arith}
 use mathlib.Core.Path.{◌≡◌, refl, sym, ◌∙◌}

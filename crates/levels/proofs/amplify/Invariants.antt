@@ -1,4 +1,4 @@
--- `levels::amplify` meets its contract. The invariant: what is done, before what is left scaled, is the whole scaled. Assumes nothing.
+-- `levels::amplify`. The invariant: what is done, before what is left scaled, is the whole scaled. Assumes nothing.
 use borrow.Author.Rules.{rules}
 use native.Mathlib.Omega.{arith}
 use mathlib.Core.Path.{◌≡◌, ap, ◌∙◌}

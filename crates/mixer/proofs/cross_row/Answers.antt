@@ -1,4 +1,4 @@
--- `mixer::cross_row` meets its contract. The invariant: the first t samples of both rows are done, all else is as it was. Assumes nothing.
+-- `mixer::cross_row` meets its contract. Assumes nothing.
 use borrow.Author.Rules.{rules}
 use native.Mathlib.Omega.{arith}
 use mathlib.Core.Path.{◌≡◌}

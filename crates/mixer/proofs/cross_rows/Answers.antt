@@ -1,4 +1,4 @@
--- `mixer::cross_rows` meets its contract. The invariant: c rows are in both sums, all else is as it was. Assumes nothing.
+-- `mixer::cross_rows` meets its contract. Assumes nothing.
 use borrow.Author.Rules.{rules}
 use native.Mathlib.Omega.{arith}
 use mathlib.Core.Path.{◌≡◌, refl}

@@ -1,4 +1,4 @@
--- `mixer::cross_rows` meets its contract. The invariant: c rows are in both sums, all else is as it was. Assumes nothing.
+-- `mixer::cross_rows`. The invariant: c rows are in both sums, all else is as it was. Assumes nothing.
 use mathlib.Core.Path.{◌≡◌}
 use Prim.Native.Nat.{◌+◌, ◌*◌, ◌%◌, ◌≤◌, ◌-◌}
 use lib.ListN.{length}

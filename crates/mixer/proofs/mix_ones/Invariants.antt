@@ -1,4 +1,4 @@
--- `mixer::mix_ones` meets its contract. The invariant: the first r mixed rows are done, all else is as it was. Assumes nothing.
+-- `mixer::mix_ones`. The invariant: the first r mixed rows are done, all else is as it was. Assumes nothing.
 use mathlib.Core.Path.{◌≡◌}
 use Prim.Native.Nat.{◌+◌, ◌*◌, ◌≤◌, ◌-◌}
 use lib.ListN.{length}

@@ -1,4 +1,4 @@
--- `mixer::mix_twos` meets its contract. The invariant: the first r mixed rows are done, all else is as it was. Assumes nothing.
+-- `mixer::mix_twos` meets its contract. Assumes nothing.
 use borrow.Author.Rules.{rules}
 use native.Mathlib.Omega.{arith}
 use mathlib.Core.Path.{◌≡◌}

@@ -1,4 +1,4 @@
--- `mixer::mix_twos` meets its contract. The invariant: the first r mixed rows are done, all else is as it was. Assumes nothing.
+-- `mixer::mix_twos`. The invariant: the first r mixed rows are done, all else is as it was. Assumes nothing.
 use mathlib.Core.Path.{◌≡◌}
 use Prim.Native.Nat.{◌+◌, ◌*◌, ◌%◌, ◌≤◌, ◌-◌}
 use lib.ListN.{length}

@@ -1,4 +1,4 @@
--- `mixer::subtract_row` meets its contract. The invariant: the first t samples of the row are done, all else is as it was. Assumes nothing.
+-- `mixer::subtract_row` meets its contract. Assumes nothing.
 use borrow.Author.Rules.{rules}
 use native.Mathlib.Omega.{arith}
 use lib.ListN.{length-set}

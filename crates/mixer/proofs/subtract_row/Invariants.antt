@@ -1,4 +1,4 @@
--- `mixer::subtract_row` meets its contract. The invariant: the first t samples of the row are done, all else is as it was. Assumes nothing.
+-- `mixer::subtract_row`. The invariant: the first t samples of the row are done, all else is as it was. Assumes nothing.
 use mathlib.Core.Path.{◌≡◌}
 use Prim.Native.Nat.{◌≤◌}
 use lib.ListN.{length}

@@ -1,4 +1,4 @@
--- `mixer::sum_rows` meets its contract. The invariant: rows 1 to c are in the sum, all else is as it was. Assumes nothing.
+-- `mixer::sum_rows` meets its contract. Assumes nothing.
 use borrow.Author.Rules.{rules}
 use native.Mathlib.Omega.{arith}
 use mathlib.Core.Path.{◌≡◌, sym}

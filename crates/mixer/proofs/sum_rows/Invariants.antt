@@ -1,4 +1,4 @@
--- `mixer::sum_rows` meets its contract. The invariant: rows 1 to c are in the sum, all else is as it was. Assumes nothing.
+-- `mixer::sum_rows`. The invariant: rows 1 to c are in the sum, all else is as it was. Assumes nothing.
 use mathlib.Core.Path.{◌≡◌}
 use Prim.Native.Nat.{◌*◌, ◌≤◌, ◌-◌}
 use lib.ListN.{length}

@@ -18,7 +18,7 @@ use Rattle.machine.specs.Ending.{Memory, lend}
 use Rattle.machine.specs.Whole as Play
 use Rattle.machine.specs.Jobs.{unit_open, memory_opened}
 use Rattle.machine.proofs.Ends.{quiet_refused, quiet_let_by}
-use Rattle.opening.proofs.Opened.{open-fits, open_long, laid-after}
+use Rattle.opening.proofs.Opened.{open_fits, open_long, laid-after}
 use mathlib.Core.Bool.{not}
 use Rattle.opening.proofs.open_apply.Goals as goal
 
@@ -39,7 +39,7 @@ begin_work-requires c =
     let work = length a.work.now in
     let through = let_by _ (judged_open_apply wall u a.t a.coefficients.now a.input.now store work) _ c.judge_open_apply-answer.ensures c.is_accepted.ensures (ap not c.if-not-is_accepted.false) in
     let g = given_of u a.t a.coefficients.now a.input.now (store_ok wall u store && work_ok wall u work) (is_accepted _ through) in
-    let o = open-fits u store work g.due in
+    let o = open_fits u store work g.due in
     (o.fits, o.rings)
 
 pub slice_bounds-copy-end : goal.slice_bounds-copy-end

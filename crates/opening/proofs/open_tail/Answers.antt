@@ -16,7 +16,7 @@ use Rattle.machine.specs.Ending.{Memory, lend}
 use Rattle.machine.specs.Whole as Play
 use Rattle.machine.specs.Jobs.{unit_open, memory_opened}
 use Rattle.machine.proofs.Ends.{quiet_refused, quiet_let_by}
-use Rattle.opening.proofs.Opened.{open-fits}
+use Rattle.opening.proofs.Opened.{open_fits}
 use Rattle.opening.proofs.open_tail.Goals as goal
 
 pub returns-then-not-is_accepted : goal.returns-then-not-is_accepted
@@ -34,7 +34,7 @@ begin_work-requires c =
     let store = length a.store.now in
     let work = length a.work.now in
     let through = let_by _ (judged_open_tail wall u store work) _ c.judge_open_tail-answer.ensures c.is_accepted.ensures (ap not c.if-not-is_accepted.false) in
-    let o = open-fits u store work (due_of u (store_ok wall u store && work_ok wall u work) true (not u.held.busy) (is_accepted _ through)) in
+    let o = open_fits u store work (due_of u (store_ok wall u store && work_ok wall u work) true (not u.held.busy) (is_accepted _ through)) in
     (o.fits, o.rings)
 
 pub returns : goal.returns

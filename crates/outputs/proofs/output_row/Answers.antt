@@ -1,4 +1,5 @@
 -- `outputs::output_row` meets its contract. Assumes nothing.
+use Rattle.samples.proofs.Clauses.{with_work}
 use Rattle.rows.proofs.Ways.{shut, let_in}
 use Rattle.rows.proofs.RowFits.{output_of_lem}
 use Rattle.outputs.proofs.OutputJoins.{no_output}
@@ -6,13 +7,9 @@ use mathlib.Core.Path.{ap}
 use mathlib.Core.Bool.{not}
 use Rattle.outputs.proofs.output_row.Goals as goal
 
--- what it ensures, clause by clause
-ends_of : {A B : Type 0} → A × B → record { value : A; work_after : B }
-ends_of p = record { value = p.0; work_after = p.1 }
-
 pub returns-then-not-output_fits : goal.returns-then-not-output_fits
 returns-then-not-output_fits c =
-    let a = c.args in rw (shut _ _ c.output_fits.ensures (ap not c.if-not-output_fits.true)) (ends_of (no_output a.n a.f a.divisor a.rings.passes a.fs a.work.now))
+    let a = c.args in rw (shut _ _ c.output_fits.ensures (ap not c.if-not-output_fits.true)) (with_work (no_output a.n a.f a.divisor a.rings.passes a.fs a.work.now))
 
 pub output_in-requires : goal.output_in-requires
 output_in-requires c =

@@ -9,7 +9,7 @@ known : (c : goal.Then-is_accepted) → let a = c.args in Timed a.time a.rate ×
 known c = value_of _ _ _ (let_by c.judge_value-answer.ensures c.is_accepted.ensures c.if-is_accepted.true)
 
 pub least-requires : goal.least-requires
-least-requires c = let k = (known c).0 in record { fact_1 = k.time; fact_2 = k.rates.hi }
+least-requires c = let k = (known c).0 in record { time_fits = k.time; rate_fits = k.rates.hi }
 
 pub value_at-requires : goal.value_at-requires
 value_at-requires c = (c.least.ensures.1, (known (goal.at.value_at-requires c).Then-is_accepted).1)

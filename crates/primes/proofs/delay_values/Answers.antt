@@ -13,7 +13,7 @@ known : (c : goal.Else-not-is_accepted) → let a = c.args in Timed a.time a.rat
 known c = values_of _ _ _ _ (let_by c.judge_values-answer.ensures c.is_accepted.ensures c.if-not-is_accepted.false)
 
 pub least-requires : goal.least-requires
-least-requires c = let k = (known c).0 in record { fact_1 = k.time; fact_2 = k.rates.hi }
+least-requires c = let k = (known c).0 in record { time_fits = k.time; rate_fits = k.rates.hi }
 
 pub set_values-requires : goal.set_values-requires
 set_values-requires c = let k = known (goal.at.set_values-requires c).Else-not-is_accepted in (c.least.ensures.1, k.1, k.2)

@@ -1,5 +1,4 @@
--- `primes::nearest_power` meets its contract. The invariant: v is a power of p that is the one looked for or lies below it, and is at most
--- 53 · 200,000. The measure is what x is above v. Assumes nothing.
+-- `primes::nearest_power` meets its contract. Assumes nothing.
 use Rattle.std.proofs.Common.{◌*◌, ◌<◌, ◌≤◌, mul-le-mul, mul-le-mul_left, arith}
 use Rattle.primes.proofs.Power.{reached_one, reached_more, reached_end, reached_upto}
 use Rattle.primes.proofs.nearest_power.Goals.{In-loop-v}

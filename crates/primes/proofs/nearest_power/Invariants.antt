@@ -1,5 +1,5 @@
--- `primes::nearest_power` meets its contract. The invariant: v is a power of p that is the one looked for or lies below it, and is at most
--- 53 · 200,000. The measure is what x is above v. Assumes nothing.
+-- `primes::nearest_power`. The invariant: v is a power of p that is the one looked for or lies below it, and is at most 53 · 200,000. The measure
+-- is what x is above v. Assumes nothing.
 use Rattle.std.proofs.Common.{◌+◌, ◌-◌, ◌≤◌}
 use Rattle.primes.proofs.Power.{Reached}
 use Rattle.primes.proofs.nearest_power.Given as goal

@@ -1,5 +1,4 @@
--- `primes::set_values` meets its contract. The invariant: what is set, and the values of the random numbers that are left, are all the
--- values. Assumes nothing.
+-- `primes::set_values` meets its contract. Assumes nothing.
 use Rattle.std.proofs.Common.{◌<◌, ◌≤◌, length, refl, ◌∙◌, arith, length-set, drop_of_length-le, rules}
 use Rattle.samples.proofs.Turns.{stored, all_done}
 use Rattle.primes.proofs.Laws.{values_next}

@@ -1,5 +1,4 @@
--- `primes::set_values` meets its contract. The invariant: what is set, and the values of the random numbers that are left, are all the
--- values. Assumes nothing.
+-- `primes::set_values`. The invariant: what is set, and the values of the random numbers that are left, are all the values. Assumes nothing.
 use Rattle.std.proofs.Common.{◌≡◌, ◌-◌, ◌≤◌, ◌++◌, length, take, drop}
 use Rattle.primes.specs.Values.{values_from}
 use Rattle.primes.proofs.set_values.Given as goal

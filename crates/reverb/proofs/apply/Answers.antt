@@ -3,6 +3,7 @@ use mathlib.Core.Path.{◌≡◌, ap, ◌∙◌}
 use mathlib.Core.Bool.{true, false}
 use lib.IntN.{pos}
 use lib.ListN.{length}
+use Rattle.samples.proofs.Clauses.{with_memory}
 use Rattle.samples.specs.Answers.{accepted}
 use Rattle.bands.specs.declared.Counted.{Counted}
 use Rattle.unit.specs.UnitState.{of_state}
@@ -13,7 +14,7 @@ use Rattle.stages.specs.Frame.{frame_in}
 use Rattle.machine.specs.Ending.{lend}
 use Rattle.machine.specs.Whole as Play
 use Rattle.machine.proofs.Ends.{ends_refused}
-use Rattle.judges.proofs.Fits.{ApplyFits, apply-fits}
+use Rattle.judges.proofs.Fits.{ApplyFits, apply_fits}
 use Rattle.unit.proofs.Outcomes.{refused, let_by}
 use Rattle.reverb.proofs.WholeParts.{begun, filters_given, as_call}
 use Rattle.samples.proofs.Laws.{is_accepted}
@@ -21,15 +22,11 @@ use Rattle.reverb.proofs.apply.Goals.{Else-not-is_accepted}
 use mathlib.Core.Bool.{not}
 use Rattle.reverb.proofs.apply.Goals as goal
 
--- what it ensures, clause by clause
-ends_of : {A B C D : Type 0} → A × (B × (C × D)) → record { value : A; store_after : B; work_after : C; output_after : D }
-ends_of p = record { value = p.0; store_after = p.1.0; work_after = p.1.1.0; output_after = p.1.1.1 }
-
 pub returns-then-not-is_accepted : goal.returns-then-not-is_accepted
 returns-then-not-is_accepted c =
     let a = c.args in
     let due = judged_apply wall (of_state a.s) a.t a.coefficients.now a.input.now (length a.store.now) (length a.work.now) (length a.output.now) in
-    let e = c.judge_apply-answer.ensures in ends_of (ends_refused due _ _ (lend a.s a.store.now a.work.now) a.output.now _ (refused _ due _ e c.is_accepted.ensures (ap not c.if-not-is_accepted.true)) e c.quiet.ensures)
+    let e = c.judge_apply-answer.ensures in with_memory (ends_refused due _ _ (lend a.s a.store.now a.work.now) a.output.now _ (refused _ due _ e c.is_accepted.ensures (ap not c.if-not-is_accepted.true)) e c.quiet.ensures)
 
 through :
     (p : goal.Else-not-is_accepted)
@@ -43,7 +40,7 @@ fits :
     ApplyFits (of_state a.s) a.t (length a.coefficients.now) (length a.input.now) (length a.store.now) (length a.work.now) (length a.output.now)
 fits p =
     let a = p.args in
-    apply-fits (of_state a.s) a.t a.coefficients.now a.input.now _ _ _ (is_accepted _ (through p))
+    apply_fits (of_state a.s) a.t a.coefficients.now a.input.now _ _ _ (is_accepted _ (through p))
 
 pub slice_bounds-copy-end : goal.slice_bounds-copy-end
 slice_bounds-copy-end c = (fits (goal.at.slice_bounds-copy-end c).Else-not-is_accepted).holds
@@ -64,5 +61,5 @@ returns c =
     let filters = filters_given a.coefficients.now _ h.what.given c.filters_of-fs.ensures in
     let count = ap (λ (n : Counted). n.count.0) c.tail_count-tail.ensures ∙ ap pos h.what.count in
     let due = judged_apply wall u a.t a.coefficients.now a.input.now (length a.store.now) (length a.work.now) (length a.output.now) in
-    let g = c.whole_frame.ensures in ends_of (as_call a.s (Play.apply a.t a.coefficients.now a.input.now) due _ _ a.store.now _ a.work.now a.output.now _ _ _ _ (through (goal.at.returns c).Else-not-is_accepted)
+    let g = c.whole_frame.ensures in with_memory (as_call a.s (Play.apply a.t a.coefficients.now a.input.now) due _ _ a.store.now _ a.work.now a.output.now _ _ _ _ (through (goal.at.returns c).Else-not-is_accepted)
     (λ i. frame_in wall.lines u.settings.frame wall.factor wall.divisor false (unit_rings wall u) (filters i) (b.0 i) a.store.now) count b.1 (g.value, (g.store_after, (g.work_after, g.output_after))))

@@ -3,6 +3,7 @@ use mathlib.Core.Path.{◌≡◌}
 use mathlib.Core.Bool.{true}
 use Prim.Native.Nat.{◌/◌}
 use lib.ListN.{length}
+use Rattle.samples.proofs.Clauses.{with_memory}
 use Rattle.samples.specs.Answers.{accepted}
 use Rattle.samples.proofs.Laws.{is_accepted}
 use Rattle.unit.specs.UnitState.{of_state}
@@ -17,15 +18,11 @@ use mathlib.Core.Path.{ap}
 use mathlib.Core.Bool.{not}
 use Rattle.reverb.proofs.apply_frames.Goals as goal
 
--- what it ensures, clause by clause
-ends_of : {A B C D : Type 0} → A × (B × (C × D)) → record { value : A; store_after : B; work_after : C; output_after : D }
-ends_of p = record { value = p.0; store_after = p.1.0; work_after = p.1.1.0; output_after = p.1.1.1 }
-
 pub returns-then-not-is_accepted : goal.returns-then-not-is_accepted
 returns-then-not-is_accepted c =
     let a = c.args in
     let due = judged_frames wall (of_state a.s) a.t a.coefficients.now (length a.input.now) (length a.store.now) (length a.work.now) (length a.output.now) in
-    let e = c.judge_frames-answer.ensures in ends_of (none_let_by due
+    let e = c.judge_frames-answer.ensures in with_memory (none_let_by due
     (singly wall a.t a.coefficients.now a.s.frame (length a.input.now / a.s.frame) (lend a.s a.store.now a.work.now) a.input.now a.output.now)
     a.s a.store.now a.work.now a.output.now _ _ (refused _ due _ e c.is_accepted.ensures (ap not c.if-not-is_accepted.true)) e c.quiet.ensures)
 
@@ -43,6 +40,6 @@ pub returns : goal.returns
 returns c =
     let a = c.args in
     let due = judged_frames wall (of_state a.s) a.t a.coefficients.now (length a.input.now) (length a.store.now) (length a.work.now) (length a.output.now) in
-    let g = c.play_frames.ensures in ends_of (all_let_by due
+    let g = c.play_frames.ensures in with_memory (all_let_by due
     (singly wall a.t a.coefficients.now a.s.frame (length a.input.now / a.s.frame) (lend a.s a.store.now a.work.now) a.input.now a.output.now)
     a.s a.store.now a.work.now a.output.now _ _ _ _ (through (goal.at.returns c).Else-not-is_accepted) (g.value, (g.store_after, (g.work_after, g.output_after))))

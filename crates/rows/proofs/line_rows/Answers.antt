@@ -5,6 +5,7 @@ use mathlib.Core.List.{List, ◌++◌}
 use Prim.Native.Nat.{ℕ, ◌*◌}
 use lib.Ieee.{Float}
 use lib.ListN.{length, take, drop}
+use Rattle.samples.proofs.Clauses.{with_rows}
 use Rattle.iir.specs.declared.Filter.{Filter}
 use Rattle.rows.specs.Fits.{lines_fit}
 use Rattle.rows.specs.Steps.{lines_in, lines_laid, lines_ends}
@@ -26,13 +27,9 @@ all : (n f : ℕ) (k : Float) (tail : Bool) (fs gs : List Filter) (rows w : List
 unfolding lines_ends lines_laid
 all n f k tail fs gs rows w e p = rw e p
 
--- what it ensures, clause by clause
-ends_of : {A B : Type 0} → A × B → record { value : A; rows_after : B }
-ends_of p = record { value = p.0; rows_after = p.1 }
-
 pub returns-then-not-lines_fit : goal.returns-then-not-lines_fit
 returns-then-not-lines_fit c =
-    let a = c.args in ends_of (nothing a.n a.f a.factor a.tail a.fs a.rows.now (shut _ _ c.lines_fit.ensures (ap not c.if-not-lines_fit.true)))
+    let a = c.args in with_rows (nothing a.n a.f a.factor a.tail a.fs a.rows.now (shut _ _ c.lines_fit.ensures (ap not c.if-not-lines_fit.true)))
 
 pub lines_in-requires : goal.lines_in-requires
 lines_in-requires c =
@@ -40,4 +37,4 @@ lines_in-requires c =
 
 pub returns : goal.returns
 returns c =
-    let a = c.args in ends_of (all a.n a.f a.factor a.tail a.fs _ a.rows.now _ (let_in _ _ c.lines_fit.ensures (ap not c.if-not-lines_fit.false)) (c.lines_in.ensures.value, c.lines_in.ensures.rows_after))
+    let a = c.args in with_rows (all a.n a.f a.factor a.tail a.fs _ a.rows.now _ (let_in _ _ c.lines_fit.ensures (ap not c.if-not-lines_fit.false)) (c.lines_in.ensures.value, c.lines_in.ensures.rows_after))

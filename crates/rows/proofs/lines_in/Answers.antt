@@ -1,5 +1,6 @@
 -- `rows::lines_in` meets its contract. Assumes nothing.
 use mathlib.Core.Path.{◌≡◌}
+use Rattle.samples.proofs.Clauses.{with_rows}
 use Rattle.unit.specs.Layout.{places_of}
 use Rattle.unit.proofs.PlaceLaws.{placed, Placed, each}
 use Rattle.rows.proofs.RowJoins.{lines_join}
@@ -12,11 +13,7 @@ at c = placed _ _ c.requires.1 c.requires.2 c.work_places-p.ensures
 spots : (c : goal.After-work_places-p) → let a = c.args in Placed c.work_places-p.result a.n a.f
 spots c = each _ _ (at c)
 
--- what it ensures, clause by clause
-ends_of : {A B : Type 0} → A × B → record { value : A; rows_after : B }
-ends_of p = record { value = p.0; rows_after = p.1 }
-
 pub returns : goal.returns
 returns c =
-    let a = c.args in ends_of (lines_join a.n a.f a.factor a.tail a.fs _ a.rows.now _ _ _ _ c.requires.0 c.requires.3
+    let a = c.args in with_rows (lines_join a.n a.f a.factor a.tail a.fs _ a.rows.now _ _ _ _ c.requires.0 c.requires.3
     (rw (at (goal.at.returns c).After-work_places-p) at c.mix_rows.ensures.value, rw (at (goal.at.returns c).After-work_places-p) at c.mix_rows.ensures.rows_after) (rw (at (goal.at.returns c).After-work_places-p) at c.band_lines-gs.ensures.value, rw (at (goal.at.returns c).After-work_places-p) at c.band_lines-gs.ensures.rows_after) (rw (at (goal.at.returns c).After-work_places-p) at c.add_unless.ensures))

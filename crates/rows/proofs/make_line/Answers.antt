@@ -6,12 +6,13 @@ use mathlib.Core.List.{List}
 use Prim.Native.Nat.{ℕ}
 use lib.Dec.{ltb}
 use lib.Ieee.{Float}
+use Rattle.samples.proofs.Clauses.{with_work}
 use Rattle.samples.proofs.Laws.{split_and}
 use Rattle.iir.specs.declared.Filter.{Filter}
 use Rattle.unit.specs.Layout.{wall}
 use Rattle.rows.specs.Parts.{line_ends, line_laid}
 use Rattle.rows.proofs.Ways.{shut, let_in}
-use Rattle.rows.proofs.RowsOf.{work-fits}
+use Rattle.rows.proofs.RowsOf.{work_fits}
 use mathlib.Core.Bool.{not}
 use Rattle.rows.proofs.make_line.Goals as goal
 
@@ -19,21 +20,17 @@ nothing : (f i : ℕ) (tail : Bool) (fs : List Filter) (work : List Float) → (
 unfolding line_ends line_laid
 nothing f i tail fs work = (refl, refl)
 
--- what it ensures, clause by clause
-ends_of : {A B : Type 0} → A × B → record { value : A; work_after : B }
-ends_of p = record { value = p.0; work_after = p.1 }
-
 pub returns-then-not-and : goal.returns-then-not-and
 returns-then-not-and c =
     let a = c.args in
-    let q = c.and.ensures ∙ ap (λ (b : Bool). ltb a.i 16 && b) c.work_for.ensures in rw (shut _ _ q (ap not c.if-not-and.true)) (ends_of (nothing a.f a.i a.tail a.fs a.work.now))
+    let q = c.and.ensures ∙ ap (λ (b : Bool). ltb a.i 16 && b) c.work_for.ensures in rw (shut _ _ q (ap not c.if-not-and.true)) (with_work (nothing a.f a.i a.tail a.fs a.work.now))
 
 pub wall_line-requires : goal.wall_line-requires
 wall_line-requires c =
     let a = c.args in
     let q = c.and.ensures ∙ ap (λ (b : Bool). ltb a.i 16 && b) c.work_for.ensures in
     let p = split_and _ _ (let_in _ _ q (ap not c.if-not-and.false)) in
-    (ltb-true _ _ p.0, work-fits _ _ p.1)
+    (ltb-true _ _ p.0, work_fits _ _ p.1)
 
 pub returns : goal.returns
 returns c =

@@ -3,6 +3,7 @@ use native.Mathlib.Omega.{arith}
 use mathlib.Core.Path.{◌≡◌}
 use lib.ListN.{length}
 use Prim.Native.Nat.{◌+◌, ◌*◌, ◌≤◌}
+use Rattle.samples.proofs.Clauses.{with_work}
 use Rattle.unit.specs.Layout.{total, places_of}
 use Rattle.unit.proofs.PlaceLaws.{placed, Placed, each}
 use Rattle.rows.proofs.Ways.{done_within}
@@ -29,15 +30,11 @@ module _ (c : goal.After-work_places-p) where
   unfolding total
   short = omega (arith, s.requires.1.short, s.requires.1.work_is)
 
--- what it ensures, clause by clause
-ends_of : {A B : Type 0} → A × B → record { value : A; work_after : B }
-ends_of p = record { value = p.0; work_after = p.1 }
-
 pub returns : goal.returns
 returns c =
     let p = s (goal.at.returns c).After-work_places-p in
     let a = p.args in
-    let few : 3 * a.i ≤ 48 = omega (arith, p.requires.0) in rw (at (goal.at.returns c).After-work_places-p) (ends_of (line_laid_lem a.f a.i a.work.now p.requires.0 p.requires.1 a.tail a.fs _ _ _
+    let few : 3 * a.i ≤ 48 = omega (arith, p.requires.0) in rw (at (goal.at.returns c).After-work_places-p) (with_work (line_laid_lem a.f a.i a.work.now p.requires.0 p.requires.1 a.tail a.fs _ _ _
     (done_within (3 * a.i) 48 _ (rw (at (goal.at.returns c).After-work_places-p) at c.three_at-gs.ensures.value) few)
     (done_within (3 * a.i) 48 _ (rw (at (goal.at.returns c).After-work_places-p) at c.three_at-gs.ensures.row_after) few)
     (rw (at (goal.at.returns c).After-work_places-p) at c.add_input.ensures)))

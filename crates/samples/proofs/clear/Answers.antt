@@ -1,4 +1,4 @@
--- `samples::clear` meets its contract. The invariant: the first i samples are +0, the rest are as they were. Assumes nothing.
+-- `samples::clear` meets its contract. Assumes nothing.
 use native.Mathlib.Omega.{arith}
 use mathlib.Core.Path.{◌∙◌}
 use lib.ListN.{length-set}

@@ -1,4 +1,4 @@
--- `samples::clear` meets its contract. The invariant: the first i samples are +0, the rest are as they were. Assumes nothing.
+-- `samples::clear`. The invariant: the first i samples are +0, the rest are as they were. Assumes nothing.
 use mathlib.Core.Path.{◌≡◌}
 use mathlib.Core.List.{◌++◌}
 use Prim.Native.Nat.{◌≤◌}

@@ -12,11 +12,11 @@ below (inf true) h = refl
 below (inf false) h = sym h
 below (fin s m e) h = refl
 
-not-below : (x : Float) → lt x (inf false) ≡ false → false ≡ finite x
+not_below : (x : Float) → lt x (inf false) ≡ false → false ≡ finite x
 unfolding lt finite
-not-below nan h = refl
-not-below (inf s) h = refl
-not-below (fin s m e) h = sym h
+not_below nan h = refl
+not_below (inf s) h = refl
+not_below (fin s m e) h = sym h
 
 pub returns-then-x-top : goal.returns-then-x-top
 unfolding div of_bits neg
@@ -24,4 +24,4 @@ returns-then-x-top c = below c.args.x c.if-x-top.true
 
 pub returns-else-x-top : goal.returns-else-x-top
 unfolding div of_bits neg
-returns-else-x-top c = c.if-x-top.false ∙ not-below c.args.x c.if-x-top.false
+returns-else-x-top c = c.if-x-top.false ∙ not_below c.args.x c.if-x-top.false

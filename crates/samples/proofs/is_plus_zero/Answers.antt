@@ -18,9 +18,9 @@ zero32 = fin false 0 (pos 0)
 abbrev one32 : Float
 one32 = fin false 1 (pos 0)
 
-not-level : (s : Bool) (m : ℕ) (e : ℤ) → eq (fin s (suc m) e) zero32 ≡ true → ⊥
+not_level : (s : Bool) (m : ℕ) (e : ℤ) → eq (fin s (suc m) e) zero32 ≡ true → ⊥
 unfolding eq
-not-level s m e h =
+not_level s m e h =
     let q : suc m * up e * 1 ≡ 0 * 1 * down e = eqb-true _ _ (split_and _ _ h).0 in
     let r : suc m * up e ≡ 0 = sym (mul-one (suc m * up e)) ∙ q ∙ simp zero-mul in
     let some : 0 < suc m = omega arith in
@@ -30,16 +30,16 @@ not-level s m e h =
 no_power : (k : ℕ) → 2 ^ suc k ≡ 1 → ⊥
 no_power k e = omega (arith, pow-suc 2 k, e)
 
-when-zero : (x : Float) → fits binary32 x ≡ true → eq x zero32 ≡ true → lt zero32 (div binary32 one32 x) ≡ plus_zero x
+when_zero : (x : Float) → fits binary32 x ≡ true → eq x zero32 ≡ true → lt zero32 (div binary32 one32 x) ≡ plus_zero x
 unfolding eq lt div plus_zero fits
-when-zero nan f e = refl
-when-zero (inf true) f e = refl
-when-zero (inf false) f e = refl
-when-zero (fin s (suc m) e) f h = absurd (not-level s m e h)
-when-zero (fin true zero e) f h = refl
-when-zero (fin false zero (pos zero)) f h = refl
-when-zero (fin false zero (pos (suc k))) f h = absurd (no_power k (sym (mul-one (2 ^ suc k)) ∙ eqb-true _ _ f))
-when-zero (fin false zero (negsuc k)) f h = absurd (no_power k (sym (one-mul (2 ^ suc k)) ∙ eqb-true _ _ f))
+when_zero nan f e = refl
+when_zero (inf true) f e = refl
+when_zero (inf false) f e = refl
+when_zero (fin s (suc m) e) f h = absurd (not_level s m e h)
+when_zero (fin true zero e) f h = refl
+when_zero (fin false zero (pos zero)) f h = refl
+when_zero (fin false zero (pos (suc k))) f h = absurd (no_power k (sym (mul-one (2 ^ suc k)) ∙ eqb-true _ _ f))
+when_zero (fin false zero (negsuc k)) f h = absurd (no_power k (sym (one-mul (2 ^ suc k)) ∙ eqb-true _ _ f))
 
 when_not : (x : Float) → eq x zero32 ≡ false → false ≡ plus_zero x
 unfolding eq plus_zero
@@ -53,7 +53,7 @@ when_not (fin false zero (negsuc k)) h = refl
 
 pub returns-then-x : goal.returns-then-x
 unfolding of_bits
-returns-then-x c = when-zero c.args.x c.well_formed.0.1 c.if-x.true
+returns-then-x c = when_zero c.args.x c.well_formed.0.1 c.if-x.true
 
 pub returns-else-x : goal.returns-else-x
 unfolding of_bits

@@ -1,5 +1,4 @@
--- `search::first_bad` meets its contract. The invariant of both loops: nothing is found yet, and the search from i on finds what the
--- search from the start finds; a row that is finite is passed over. Assumes nothing.
+-- `search::first_bad` meets its contract. Assumes nothing.
 use native.Mathlib.Omega.{arith}
 use mathlib.Core.Path.{◌≡◌, sym, ap, ◌∙◌}
 use mathlib.Core.Bool.{true, false}

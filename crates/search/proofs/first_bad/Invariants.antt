@@ -1,5 +1,5 @@
--- `search::first_bad` meets its contract. The invariant of both loops: nothing is found yet, and the search from i on finds what the
--- search from the start finds; a row that is finite is passed over. Assumes nothing.
+-- `search::first_bad`. The invariant of both loops: nothing is found yet, and the search from i on finds what the search from the start finds; a
+-- row that is finite is passed over. Assumes nothing.
 use mathlib.Core.Path.{◌≡◌}
 use Prim.Native.Nat.{◌≤◌, ◌<◌, ◌-◌}
 use lib.ListN.{length, drop}

@@ -1,4 +1,4 @@
--- `search::row_finite` meets its contract. The invariant: the verdict is the test of the first i samples. Assumes nothing.
+-- `search::row_finite` meets its contract. Assumes nothing.
 use native.Mathlib.Omega.{arith}
 use mathlib.Core.Path.{◌≡◌, sym, ◌∙◌}
 use mathlib.Core.Bool.{Bool, true, false, ◌&&◌}

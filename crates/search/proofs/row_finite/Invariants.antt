@@ -1,4 +1,4 @@
--- `search::row_finite` meets its contract. The invariant: the verdict is the test of the first i samples. Assumes nothing.
+-- `search::row_finite`. The invariant: the verdict is the test of the first i samples. Assumes nothing.
 use mathlib.Core.Path.{◌≡◌}
 use Prim.Native.Nat.{◌≤◌}
 use lib.ListN.{length, take}

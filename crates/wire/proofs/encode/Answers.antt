@@ -1,4 +1,4 @@
--- `wire::encode` meets its contract. The invariant: the bytes of the first i floats, and then `out` as it was. Assumes nothing.
+-- `wire::encode` meets its contract. Assumes nothing.
 use native.Mathlib.Omega.{arith}
 use mathlib.Core.Path.{◌≡◌, ◌∙◌}
 use Prim.Native.Nat.{◌*◌}

@@ -1,4 +1,4 @@
--- `wire::encode` meets its contract. The invariant: the bytes of the first i floats, and then `out` as it was. Assumes nothing.
+-- `wire::encode`. The invariant: the bytes of the first i floats, and then `out` as it was. Assumes nothing.
 use mathlib.Core.Path.{◌≡◌}
 use mathlib.Core.List.{◌++◌}
 use Prim.Native.Nat.{◌*◌, ◌-◌, ◌≤◌}

@@ -1,4 +1,4 @@
--- `wire::whole_samples` meets its contract. The invariant: what is done, before what the bytes that are left give, is what all give. Assumes nothing.
+-- `wire::whole_samples`. The invariant: what is done, before what the bytes that are left give, is what all give. Assumes nothing.
 use mathlib.Core.Path.{◌≡◌}
 use mathlib.Core.List.{◌++◌}
 use Prim.Native.Nat.{◌*◌, ◌-◌, ◌≤◌}

@@ -1,5 +1,4 @@
--- `bank::line::run_behind` meets its contract. The invariant: the samples put so far, then what the bands make of those left, are the
--- answer, and so of the bands. Assumes nothing.
+-- `bank::line::run_behind` meets its contract. Assumes nothing.
 use native.Mathlib.Omega.{arith}
 use mathlib.Core.Path.{refl}
 use Rattle.bank.proofs.BehindTurns.{one_put, all_put}

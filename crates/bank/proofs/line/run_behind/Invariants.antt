@@ -1,5 +1,5 @@
--- `bank::line::run_behind` meets its contract. The invariant: the samples put so far, then what the bands make of those left, are the
--- answer, and so of the bands. Assumes nothing.
+-- `bank::line::run_behind`. The invariant: the samples put so far, then what the bands make of those left, are the answer, and so of the bands.
+-- Assumes nothing.
 use Rattle.bank.proofs.BehindTurns.{Behind}
 use Rattle.bank.proofs.line.run_behind.Given as goal
 

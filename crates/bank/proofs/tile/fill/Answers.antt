@@ -1,5 +1,4 @@
--- `bank::tile::fill` meets its contract. The invariant: each line's samples of the columns filled so far are its row's.
--- Assumes nothing.
+-- `bank::tile::fill` meets its contract. Assumes nothing.
 use native.Mathlib.Omega.{arith}
 use mathlib.Core.Path.{refl}
 use Rattle.bank.proofs.TileTurns.{one_filled, all_filled}

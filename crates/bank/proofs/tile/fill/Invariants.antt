@@ -1,5 +1,4 @@
--- `bank::tile::fill` meets its contract. The invariant: each line's samples of the columns filled so far are its row's.
--- Assumes nothing.
+-- `bank::tile::fill`. The invariant: each line's samples of the columns filled so far are its row's. Assumes nothing.
 use Prim.Native.Nat.{◌-◌}
 use Rattle.bank.proofs.TileTurns.{Filling}
 use Rattle.bank.proofs.tile.fill.Given as goal

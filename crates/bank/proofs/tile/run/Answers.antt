@@ -1,5 +1,4 @@
--- `bank::tile::run` meets its contract. The invariant: each line's samples of the columns done, then its bands over those left, are the answer, and so of its bands.
--- Assumes nothing.
+-- `bank::tile::run` meets its contract. Assumes nothing.
 use Rattle.bank.proofs.TileTurns.{none-played, one_played, all-played}
 use Rattle.bank.proofs.tile.run.Goals as goal
 

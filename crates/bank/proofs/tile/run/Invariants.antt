@@ -1,4 +1,4 @@
--- `bank::tile::run` meets its contract. The invariant: each line's samples of the columns done, then its bands over those left, are the answer, and so of its bands.
+-- `bank::tile::run`. The invariant: each line's samples of the columns done, then its bands over those left, are the answer, and so of its bands.
 -- Assumes nothing.
 use Prim.Native.Nat.{◌-◌}
 use Rattle.bank.proofs.TileTurns.{Playing}

@@ -1,5 +1,4 @@
--- `bank::tile::run_rows` meets its contract. The invariant: of each line, the samples done, then its bands over those left, are the answer, and so of its bands.
--- Assumes nothing.
+-- `bank::tile::run_rows` meets its contract. Assumes nothing.
 use borrow.Author.Rules.{rules}
 use native.Mathlib.Omega.{arith}
 use mathlib.Core.Path.{refl}
@@ -20,4 +19,4 @@ pub returns : goal.returns
 returns c =
     let l = c.loop-t in
     let ends = all-run _ _ _ l.t l.g l.rows l.invariant.0 c.loop-t-test.false in
-    record { result_value = ends.0; rows_after = ends.1 }
+    record { value = ends.0; rows_after = ends.1 }

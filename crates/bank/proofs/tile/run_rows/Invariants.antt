@@ -1,4 +1,4 @@
--- `bank::tile::run_rows` meets its contract. The invariant: of each line, the samples done, then its bands over those left, are the answer, and so of its bands.
+-- `bank::tile::run_rows`. The invariant: of each line, the samples done, then its bands over those left, are the answer, and so of its bands.
 -- Assumes nothing.
 use mathlib.Core.Path.{◌≡◌}
 use Prim.Native.Nat.{◌-◌}

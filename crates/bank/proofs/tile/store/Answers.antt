@@ -1,5 +1,4 @@
--- `bank::tile::store` meets its contract. The invariant: each row is as it was but for the columns put so far.
--- Assumes nothing.
+-- `bank::tile::store` meets its contract. Assumes nothing.
 use native.Mathlib.Omega.{arith}
 use mathlib.Core.Path.{refl}
 use Rattle.samples.proofs.Lists.{over_none}

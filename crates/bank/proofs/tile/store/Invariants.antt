@@ -1,5 +1,4 @@
--- `bank::tile::store` meets its contract. The invariant: each row is as it was but for the columns put so far.
--- Assumes nothing.
+-- `bank::tile::store`. The invariant: each row is as it was but for the columns put so far. Assumes nothing.
 use Prim.Native.Nat.{◌-◌}
 use Rattle.bank.proofs.TileTurns.{Storing}
 use Rattle.bank.proofs.tile.store.Given as goal

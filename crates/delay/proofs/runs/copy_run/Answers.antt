@@ -1,4 +1,4 @@
--- `delay::runs::copy_run` meets its contract. The invariant: i samples of the run stand in their places. Assumes nothing.
+-- `delay::runs::copy_run` meets its contract. Assumes nothing.
 use borrow.Author.Rules.{rules}
 use native.Mathlib.Omega.{arith}
 use mathlib.Core.Path.{◌≡◌, refl, ap, ◌∙◌}

@@ -1,4 +1,4 @@
--- `delay::runs::copy_run` meets its contract. The invariant: i samples of the run stand in their places. Assumes nothing.
+-- `delay::runs::copy_run`. The invariant: i samples of the run stand in their places. Assumes nothing.
 use mathlib.Core.Path.{◌≡◌}
 use Prim.Native.Nat.{◌≤◌, ◌-◌}
 use lib.ListN.{length, drop}

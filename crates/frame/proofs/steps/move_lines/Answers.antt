@@ -1,5 +1,4 @@
--- `frame::steps::move_lines` meets its contract. The invariant: the cursors moved so far, then those left moved, are the answer.
--- Assumes nothing.
+-- `frame::steps::move_lines` meets its contract. Assumes nothing.
 use borrow.Author.Rules.{rules}
 use mathlib.Core.Path.{refl}
 use native.Mathlib.Nat.{sub-zero}

@@ -1,5 +1,4 @@
--- `frame::steps::move_lines` meets its contract. The invariant: the cursors moved so far, then those left moved, are the answer.
--- Assumes nothing.
+-- `frame::steps::move_lines`. The invariant: the cursors moved so far, then those left moved, are the answer. Assumes nothing.
 use lib.ListN.{take}
 use Rattle.stages.specs.Settle.{all_moved}
 use Rattle.frame.proofs.LineFills.{Moving}

@@ -1,4 +1,4 @@
--- `frame::steps::move_passes` meets its contract. The invariant: as of the lines. Assumes nothing.
+-- `frame::steps::move_passes` meets its contract. Assumes nothing.
 use borrow.Author.Rules.{rules}
 use mathlib.Core.Path.{refl, ap}
 use mathlib.Core.List.{List}

@@ -1,4 +1,4 @@
--- `frame::steps::move_passes` meets its contract. The invariant: as of the lines. Assumes nothing.
+-- `frame::steps::move_passes`. The invariant: as of the lines. Assumes nothing.
 use Rattle.stages.specs.Settle.{all_moved}
 use Rattle.frame.proofs.LineFills.{Moving}
 use Rattle.frame.proofs.steps.move_passes.Given as goal

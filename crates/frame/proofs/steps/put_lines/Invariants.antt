@@ -1,5 +1,4 @@
--- `frame::steps::put_lines` meets its contract. The invariant: what is put so far, then what is left to put, is the answer.
--- Assumes nothing.
+-- `frame::steps::put_lines`. The invariant: what is put so far, then what is left to put, is the answer. Assumes nothing.
 use lib.ListN.{length, take, drop}
 use Rattle.unit.specs.Layout.{total}
 use Rattle.stages.specs.Settle.{put_rows}

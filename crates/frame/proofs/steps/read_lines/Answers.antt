@@ -1,12 +1,11 @@
--- `frame::steps::read_lines` meets its contract. The invariant: what is read so far, then what is left to read, is the answer.
--- Assumes nothing.
+-- `frame::steps::read_lines` meets its contract. Assumes nothing.
 use native.Mathlib.Omega.{arith}
 use mathlib.Core.Path.{refl, sym}
 use Prim.Native.Nat.{◌≤◌, ◌+◌}
 use native.Mathlib.Nat.{zero-add, sub-zero}
 use lib.ListN.{length, get_or}
 use Rattle.samples.proofs.Rows.{all_left}
-use Rattle.frame.proofs.LineLaws.{turn-fits}
+use Rattle.frame.proofs.LineLaws.{turn_fits}
 use Rattle.frame.proofs.LineTurns.{read-turn, read_done}
 use Rattle.frame.proofs.steps.read_lines.Goals.{In-loop-i}
 use Rattle.frame.proofs.steps.read_lines.Goals as goal
@@ -18,7 +17,7 @@ fits : (c : goal.In-loop-i) →
 fits c =
     let l = c.loop-i in
     let s = c.args in
-    turn-fits s.f s.rings.lines.lengths s.rings.lines.cursors _ s.n l.i l.a l.invariant.2 c.loop-i-test.true l.b _ l.invariant.0
+    turn_fits s.f s.rings.lines.lengths s.rings.lines.cursors _ s.n l.i l.a l.invariant.2 c.loop-i-test.true l.b _ l.invariant.0
 
 pub loop-i-init : goal.loop-i-init
 loop-i-init c =

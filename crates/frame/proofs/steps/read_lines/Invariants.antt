@@ -1,5 +1,4 @@
--- `frame::steps::read_lines` meets its contract. The invariant: what is read so far, then what is left to read, is the answer.
--- Assumes nothing.
+-- `frame::steps::read_lines`. The invariant: what is read so far, then what is left to read, is the answer. Assumes nothing.
 use lib.ListN.{length}
 use Rattle.stages.specs.Lines.{read_rows}
 use Rattle.frame.proofs.LineTurns.{Reading}

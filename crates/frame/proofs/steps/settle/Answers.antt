@@ -7,5 +7,5 @@ pub returns : goal.returns
 returns c =
     let a = c.args in
     c.put_rings.ensures
-    ∙ settle_join a.n a.f a.rings.lines.lengths a.rings.lines.cursors a.rows.now a.allpass.now a.store.now _ c.requires.lines_fit.rings c.requires.allpass_value
+    ∙ settle_join a.n a.f a.rings.lines.lengths a.rings.lines.cursors a.rows.now a.allpass.now a.store.now _ c.requires.lines_fit.rings c.requires.allpass_fits
     c.put_lines.ensures

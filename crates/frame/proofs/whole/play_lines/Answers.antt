@@ -1,6 +1,7 @@
 -- `frame::whole::play_lines` meets its contract. Assumes nothing.
 use borrow.Author.Rules.{rules}
 use mathlib.Core.Path.{◌≡◌}
+use Rattle.samples.proofs.Clauses.{with_rows}
 use Rattle.unit.specs.Layout.{places_of}
 use Rattle.unit.proofs.PlaceLaws.{placed, Placed, each}
 use Rattle.frame.proofs.RowJoins.{lines_join}
@@ -17,12 +18,8 @@ module _ (c : goal.After-work_places-p) where
   spots : Placed c.work_places-p.result s.args.n s.args.f
   spots = each _ _ at
 
--- what it ensures, clause by clause
-ends_of : {A B : Type 0} → A × B → record { value : A; rows_after : B }
-ends_of p = record { value = p.0; rows_after = p.1 }
-
 pub returns : goal.returns
 returns c =
     let p = s (goal.at.returns c).After-work_places-p in
-    let a = p.args in ends_of (lines_join a.n a.f a.factor a.tail a.fs a.rows.now _ p.requires.n_nonzero.0 p.requires.lines_fit.few p.requires.lines_fit.small p.requires.n_nonzero.1 (at (goal.at.returns c).After-work_places-p)
+    let a = p.args in with_rows (lines_join a.n a.f a.factor a.tail a.fs a.rows.now _ p.requires.rows_fit.0 p.requires.lines_fit.few p.requires.lines_fit.small p.requires.rows_fit.1 (at (goal.at.returns c).After-work_places-p)
     _ _ _ (search (rules, c.read_lines.auto)) c.read_lines.ensures (c.line_rows.ensures.value, c.line_rows.ensures.rows_after))

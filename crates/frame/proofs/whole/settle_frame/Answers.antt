@@ -38,7 +38,7 @@ settle-requires c =
         rows_are = lent_long from work m (omega (arith, p.requires.rows));
         rings = l.rings;
       };
-      allpass_value = omega (arith, p.requires.rings, p.requires.rows, ap length (end_is e work), length-drop e work);
+      allpass_fits = omega (arith, p.requires.rings, p.requires.rows, ap length (end_is e work), length-drop e work);
     })
 
 pub returns : goal.returns

@@ -1,4 +1,4 @@
--- `judges::marks::first_done` meets its contract. The invariant: the first i are tested. Assumes nothing.
+-- `judges::marks::first_done` meets its contract. Assumes nothing.
 use borrow.Author.Rules.{rules}
 use native.Mathlib.Omega.{arith}
 use mathlib.Core.Path.{◌≡◌, refl, ap, ◌∙◌}

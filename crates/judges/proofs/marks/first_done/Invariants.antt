@@ -1,4 +1,4 @@
--- `judges::marks::first_done` meets its contract. The invariant: the first i are tested. Assumes nothing.
+-- `judges::marks::first_done`. The invariant: the first i are tested. Assumes nothing.
 use mathlib.Core.Path.{◌≡◌}
 use Prim.Native.Nat.{◌≤◌}
 use lib.ListN.{take}

@@ -3,6 +3,7 @@ use borrow.Author.Rules.{rules}
 use native.Mathlib.Omega.{arith}
 use mathlib.Core.Path.{◌≡◌}
 use Prim.Native.Nat.{◌*◌, ◌≤◌}
+use Rattle.samples.proofs.Clauses.{with_work}
 use Rattle.unit.specs.Layout.{places_of}
 use Rattle.unit.proofs.PlaceLaws.{placed, Placed, each}
 use Rattle.rows.proofs.Ways.{done_within}
@@ -20,14 +21,10 @@ module _ (c : goal.After-work_places-p) where
   spots : Placed c.work_places-p.result s.args.n s.args.f
   spots = each _ _ at
 
--- what it ensures, clause by clause
-ends_of : {A B : Type 0} → A × B → record { value : A; work_after : B }
-ends_of p = record { value = p.0; work_after = p.1 }
-
 pub returns : goal.returns
 returns c =
     let p = s (goal.at.returns c).After-work_places-p in
     let a = p.args in
-    let few : 3 * a.n ≤ 48 = omega (arith, p.requires.0) in ends_of (output_join a.n a.f a.divisor a.passes a.fs a.work.now p.requires.2 p.requires.3 (at (goal.at.returns c).After-work_places-p)
+    let few : 3 * a.n ≤ 48 = omega (arith, p.requires.0) in with_work (output_join a.n a.f a.divisor a.passes a.fs a.work.now p.requires.2 p.requires.3 (at (goal.at.returns c).After-work_places-p)
     _ _ _ _ (search (rules, c.sum_row.auto)) c.sum_row.ensures c.pass_both.ensures
     (done_within (3 * a.n) 48 _ c.three_at.ensures.value few, done_within (3 * a.n) 48 _ c.three_at.ensures.row_after few))

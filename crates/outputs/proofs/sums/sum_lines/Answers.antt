@@ -1,10 +1,9 @@
--- `outputs::sums::sum_lines` meets its contract. The invariant: all before the output is as it was, and the output so far, with the rows left,
--- sums to the answer. Assumes nothing.
+-- `outputs::sums::sum_lines` meets its contract. Assumes nothing.
 use native.Mathlib.Omega.{arith}
 use mathlib.Core.Path.{◌≡◌, refl, ◌∙◌}
 use Prim.Native.Nat.{◌+◌, ◌-◌}
 use lib.ListN.{length}
-use Rattle.outputs.proofs.SumTurns.{cleared_long, sum-holds, sum-turn, sum_done, sum_of}
+use Rattle.outputs.proofs.SumTurns.{cleared_long, sum_holds, sum-turn, sum_done, sum_of}
 use Rattle.outputs.proofs.sums.sum_lines.Goals.{Start}
 use Rattle.outputs.proofs.sums.sum_lines.Goals as goal
 
@@ -15,7 +14,7 @@ long s = omega (arith, s.requires)
 pub loop-init : goal.loop-init
 loop-init c =
     let e = cleared_long _ c.args.f c.args.rows.now _ (long (goal.at.loop-init c).Start) c.clear.ensures in
-    sum-holds c.args.n c.args.f _ _ _ (omega arith) _ e refl refl
+    sum_holds c.args.n c.args.f _ _ _ (omega arith) _ e refl refl
 
 pub loop-preserved : goal.loop-preserved
 loop-preserved c =

@@ -1,5 +1,5 @@
--- `outputs::sums::sum_lines` meets its contract. The invariant: all before the output is as it was, and the output so far, with the rows left,
--- sums to the answer. Assumes nothing.
+-- `outputs::sums::sum_lines`. The invariant: all before the output is as it was, and the output so far, with the rows left, sums to the answer.
+-- Assumes nothing.
 use Prim.Native.Nat.{◌*◌}
 use lib.ListN.{take, drop}
 use Rattle.stages.specs.Lines.{sum_rows}

@@ -1,5 +1,4 @@
--- `reverb::filters::filters_from` meets its contract. The invariant: the filters so far, then those of the coefficients left, are the answer.
--- Assumes nothing.
+-- `reverb::filters::filters_from` meets its contract. Assumes nothing.
 use borrow.Author.Rules.{rules}
 use native.Mathlib.Omega.{arith}
 use mathlib.Core.Path.{◌≡◌, refl, ◌∙◌}

@@ -1,5 +1,4 @@
--- `reverb::filters::filters_from` meets its contract. The invariant: the filters so far, then those of the coefficients left, are the answer.
--- Assumes nothing.
+-- `reverb::filters::filters_from`. The invariant: the filters so far, then those of the coefficients left, are the answer. Assumes nothing.
 use mathlib.Core.Path.{◌≡◌}
 use mathlib.Core.List.{◌++◌}
 use Prim.Native.Nat.{◌*◌, ◌≤◌, ◌-◌}

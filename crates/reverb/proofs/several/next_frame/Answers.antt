@@ -5,6 +5,7 @@ use mathlib.Core.Bool.{true}
 use mathlib.Core.List.{List}
 use lib.Ieee.{Float}
 use lib.ListN.{take, drop}
+use Rattle.samples.proofs.Clauses.{with_memory}
 use Rattle.samples.specs.declared.Answer.{Answer}
 use Rattle.samples.specs.Answers.{accepted}
 use Rattle.search.specs.Search.{first_bad}
@@ -29,20 +30,16 @@ let_through c =
     let a = c.args in
     let_by _ _ _ (c.judge_input-due.ensures ∙ ap (λ (l : List Float). bad_input (first_bad l)) (lent_part a.at a.f a.input.now)) c.is_accepted.ensures (ap not c.if-not-is_accepted.false)
 
--- what it ensures, clause by clause
-ends_of : {A B C D : Type 0} → A × (B × (C × D)) → record { value : A; store_after : B; work_after : C; output_after : D }
-ends_of p = record { value = p.0; store_after = p.1.0; work_after = p.1.1.0; output_after = p.1.1.1 }
-
 pub returns-then-not-frame : goal.returns-then-not-frame
 returns-then-not-frame c =
     let a = c.args in
-    let b = begun a.f _ a.work.now _ (part_long a.at a.f a.input.now c.requires.f_in_bounds.0) c.requires.f_in_bounds.1 c.copy.ensures in
-    let g = c.run_frame-frame.ensures in ends_of (nine a.f a.ls a.last a.fs (take a.f (drop a.at a.input.now)) a.store.now a.work.now a.output.now (let_through (goal.at.returns-then-not-frame c).Else-not-is_accepted) _ (b.0 ∙ lent_part a.at a.f a.input.now) b.1 (rw b.1 c.requires.output_value) _
+    let b = begun a.f _ a.work.now _ (part_long a.at a.f a.input.now c.requires.frame_lent.0) c.requires.frame_lent.1 c.copy.ensures in
+    let g = c.run_frame-frame.ensures in with_memory (nine a.f a.ls a.last a.fs (take a.f (drop a.at a.input.now)) a.store.now a.work.now a.output.now (let_through (goal.at.returns-then-not-frame c).Else-not-is_accepted) _ (b.0 ∙ lent_part a.at a.f a.input.now) b.1 (rw b.1 c.requires.room) _
     c.rings_at.ensures _ _ _ _ g.value g.store_after g.work_after g.output_after (not-true _ c.if-not-frame.true))
 
 pub returns : goal.returns
 returns c =
     let a = c.args in
-    let b = begun a.f _ a.work.now _ (part_long a.at a.f a.input.now c.requires.f_in_bounds.0) c.requires.f_in_bounds.1 c.copy.ensures in
-    let g = c.run_frame-frame.ensures in ends_of (kept_next a.f a.ls a.last a.fs (take a.f (drop a.at a.input.now)) a.store.now a.work.now a.output.now (let_through (goal.at.returns c).Else-not-is_accepted) _ (b.0 ∙ lent_part a.at a.f a.input.now) b.1 (rw b.1 c.requires.output_value) _
+    let b = begun a.f _ a.work.now _ (part_long a.at a.f a.input.now c.requires.frame_lent.0) c.requires.frame_lent.1 c.copy.ensures in
+    let g = c.run_frame-frame.ensures in with_memory (kept_next a.f a.ls a.last a.fs (take a.f (drop a.at a.input.now)) a.store.now a.work.now a.output.now (let_through (goal.at.returns c).Else-not-is_accepted) _ (b.0 ∙ lent_part a.at a.f a.input.now) b.1 (rw b.1 c.requires.room) _
     c.rings_at.ensures _ _ _ _ g.value g.store_after g.work_after g.output_after (not-false _ c.if-not-frame.false))

@@ -1,5 +1,4 @@
--- `reverb::several::play_frames` meets its contract. The invariant: what the frames done and those left come to together is what all of them do, with
--- any times that are let by and give the tail counted; and there is room for the next. Assumes nothing.
+-- `reverb::several::play_frames` meets its contract. Assumes nothing.
 use borrow.Author.Rules.{rules}
 use borrow.Rule.Slice.PartMut.{put_mid, mid_of, same_len_mid}
 use native.Mathlib.Omega.{arith}
@@ -30,14 +29,14 @@ use Rattle.machine.specs.Several.{Several, frames_outcome_of}
 use Rattle.reverb.specs.declared.several.Next.{Next}
 use Rattle.reverb.specs.Workers.{unit_stepped, rings_at, NextLeft, next_frame, several_by}
 use Rattle.reverb.proofs.WholeParts.{filters_given}
-use Rattle.reverb.proofs.SeveralTurns.{ahead, left, frame-fits, none_done, all_done, lent_part, part_long, put_back, put_beside, frame_due, turn-done, turn_refused, refused_outcome}
+use Rattle.reverb.proofs.SeveralTurns.{ahead, left, frame_fits, none_done, all_done, lent_part, part_long, put_back, put_beside, frame_due, turn-done, turn_refused, refused_outcome}
 use Rattle.reverb.proofs.SeveralParts.{room_next}
 use Rattle.reverb.proofs.several.play_frames.Goals.{After-next_frame-x, At-loop-done}
 use Rattle.reverb.proofs.several.play_frames.Goals as goal
 
 -- frame `done` lies in the input
 frame_within : (n done at f len : ℕ) → at ≡ done * f → n ≡ len / f → done < n → at + f ≤ len
-frame_within n done at f len e q h = omega (arith, e, frame-fits done f len (rw q at h))
+frame_within n done at f len e q h = omega (arith, e, frame_fits done f len (rw q at h))
 
 pub loop-done-init : goal.loop-done-init
 loop-done-init c =
@@ -94,10 +93,10 @@ next_frame-x-requires c =
     let l = c.loop-done in
     let h = (frames_fit (of_state c.args.s) c.args.t c.args.coefficients.now _ _ _ _ c.requires) in
     let e = frame_within _ _ _ _ _ c.loop-done.invariant.1 c.frame_count-n.ensures c.loop-done-test.true in record {
-      output_value = ap (λ (j : ℕ). room_ok wall a.s.frame (rings_at c.lengths-ls.result l.last) (length l.store) (length l.work) j)
+      room = ap (λ (j : ℕ). room_ok wall a.s.frame (rings_at c.lengths-ls.result l.last) (length l.store) (length l.work) j)
           (part_long l.at a.s.frame l.output (omega (arith, e, l.invariant.4, h.what.beside)))
           ∙ l.invariant.5;
-      f_in_bounds = (e, omega (arith, h.holds, l.invariant.3));
+      frame_lent = (e, omega (arith, h.holds, l.invariant.3));
     }
 
 -- what all of them come to, by those done and those left

@@ -1,5 +1,5 @@
--- `reverb::several::play_frames` meets its contract. The invariant: what the frames done and those left come to together is what all of them do, with
--- any times that are let by and give the tail counted; and there is room for the next. Assumes nothing.
+-- `reverb::several::play_frames`. The invariant: what the frames done and those left come to together is what all of them do, with any times that
+-- are let by and give the tail counted; and there is room for the next. Assumes nothing.
 use mathlib.Core.Path.{◌≡◌}
 use mathlib.Core.Bool.{true}
 use Prim.Native.Nat.{◌*◌, ◌-◌, ◌≤◌}

@@ -1,8 +1,8 @@
--- `rows::filters::band_lines` meets its contract. The invariant: the rows filtered so far, then those left by their bands, are the answer, and
--- so of the filters. Assumes nothing.
+-- `rows::filters::band_lines` meets its contract. Assumes nothing.
 use native.Mathlib.Omega.{arith}
 use Prim.Native.Nat.{◌+◌, ◌*◌, ◌≤◌}
 use lib.ListN.{length}
+use Rattle.samples.proofs.Clauses.{with_rows}
 use Rattle.rows.proofs.Ways.{done_within}
 use Rattle.samples.proofs.Rows.{rows_fit, row_fits}
 use Rattle.rows.proofs.BandTurns.{band_start, four-turn, one_turn, band_done}
@@ -53,10 +53,6 @@ loop-i-preserved c =
     one_turn c.args.n c.args.f c.args.fs _ _ _ l.i l.b l.gs l.rows _ _ c.loop-i-test.true few l.invariant
     (done_within (3 * l.i) 48 _ c.three_at-hs.ensures.value (omega arith)) (done_within (3 * l.i) 48 _ c.three_at-hs.ensures.row_after (omega arith))
 
--- what it ensures, clause by clause
-ends_of : {A B : Type 0} → A × B → record { value : A; rows_after : B }
-ends_of p = record { value = p.0; rows_after = p.1 }
-
 pub returns : goal.returns
 returns c =
-    let l = c.loop-i in ends_of (band_done c.args.n c.args.f c.args.fs _ _ _ l.i l.b l.gs l.rows c.loop-i-test.false l.invariant)
+    let l = c.loop-i in with_rows (band_done c.args.n c.args.f c.args.fs _ _ _ l.i l.b l.gs l.rows c.loop-i-test.false l.invariant)

@@ -1,5 +1,5 @@
--- `rows::filters::band_lines` meets its contract. The invariant: the rows filtered so far, then those left by their bands, are the answer, and
--- so of the filters. Assumes nothing.
+-- `rows::filters::band_lines`. The invariant: the rows filtered so far, then those left by their bands, are the answer, and so of the filters.
+-- Assumes nothing.
 use Prim.Native.Nat.{◌-◌}
 use lib.ListN.{length}
 use Rattle.stages.specs.Lines.{band_ends}

@@ -1,4 +1,4 @@
--- `rows::fits::sum_to` meets its contract. The invariant: what is left, and the rings so far, are all. Assumes nothing.
+-- `rows::fits::sum_to` meets its contract. Assumes nothing.
 use borrow.Author.Rules.{rules}
 use native.Mathlib.Omega.{arith}
 use native.Mathlib.Nat.{add-zero}

@@ -1,4 +1,4 @@
--- `rows::fits::sum_to` meets its contract. The invariant: what is left, and the rings so far, are all. Assumes nothing.
+-- `rows::fits::sum_to`. The invariant: what is left, and the rings so far, are all. Assumes nothing.
 use Prim.Native.Nat.{◌+◌, ◌≤◌}
 use mathlib.Core.Path.{◌≡◌}
 use lib.ListN.{take}

@@ -8,7 +8,7 @@ use Rattle.unit.specs.declared.Rings.{Rings}
 use Rattle.unit.specs.Layout.{wall}
 use Rattle.rows.proofs.Ways.{shut, let_in}
 use Rattle.rows.specs.Reads.{read_laid}
-use Rattle.rows.proofs.ReadLaid.{line-fits}
+use Rattle.rows.proofs.ReadLaid.{line_fits}
 use mathlib.Core.Path.{ap}
 use mathlib.Core.Bool.{not}
 use Rattle.rows.proofs.reads.read_line.Goals as goal
@@ -24,7 +24,7 @@ returns-then-not-line_room c =
 
 pub wall_read-requires : goal.wall_read-requires
 wall_read-requires c =
-    line-fits _ _ _ _ _ (let_in _ _ c.line_room.ensures (ap not c.if-not-line_room.false))
+    line_fits _ _ _ _ _ (let_in _ _ c.line_room.ensures (ap not c.if-not-line_room.false))
 
 pub returns : goal.returns
 returns c =

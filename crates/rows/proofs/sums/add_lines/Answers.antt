@@ -1,5 +1,4 @@
--- `rows::sums::add_lines` meets its contract. The invariant: the input is as it was, and the rows before e, then the sums of those left, are
--- the answer. Assumes nothing.
+-- `rows::sums::add_lines` meets its contract. Assumes nothing.
 use native.Mathlib.Omega.{arith}
 use mathlib.Core.Path.{refl, sym}
 use Prim.Native.Nat.{◌≤◌, ◌+◌}

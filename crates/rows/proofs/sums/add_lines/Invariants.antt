@@ -1,5 +1,5 @@
--- `rows::sums::add_lines` meets its contract. The invariant: the input is as it was, and the rows before e, then the sums of those left, are
--- the answer. Assumes nothing.
+-- `rows::sums::add_lines`. The invariant: the input is as it was, and the rows before e, then the sums of those left, are the answer. Assumes
+-- nothing.
 use mathlib.Core.List.{◌++◌}
 use Prim.Native.Nat.{◌+◌, ◌*◌}
 use lib.ListN.{length, take, drop}

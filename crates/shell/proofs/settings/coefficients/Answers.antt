@@ -1,4 +1,4 @@
--- `shell::settings::coefficients` meets its contract. The invariant: the first k filters have their factors. Assumes nothing.
+-- `shell::settings::coefficients` meets its contract. Assumes nothing.
 use borrow.Author.Rules.{rules}
 use native.Mathlib.Omega.{arith}
 use mathlib.Core.Path.{◌≡◌, refl, ap, ◌∙◌}

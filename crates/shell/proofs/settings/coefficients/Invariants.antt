@@ -1,4 +1,4 @@
--- `shell::settings::coefficients` meets its contract. The invariant: the first k filters have their factors. Assumes nothing.
+-- `shell::settings::coefficients`. The invariant: the first k filters have their factors. Assumes nothing.
 use mathlib.Core.Path.{◌≡◌}
 use Prim.Native.Nat.{◌≤◌}
 use lib.ListN.{length}

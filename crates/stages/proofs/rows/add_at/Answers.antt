@@ -1,5 +1,4 @@
--- `stages::rows::add_at` meets its contract. The invariant: the first f samples are as they were, and what is done, then the sums of what is
--- left, is the answer. Assumes nothing.
+-- `stages::rows::add_at` meets its contract. Assumes nothing.
 use borrow.Author.Rules.{rules}
 use native.Mathlib.Omega.{arith}
 use mathlib.Core.Path.{refl, ◌∙◌}

@@ -1,5 +1,5 @@
--- `stages::rows::add_at` meets its contract. The invariant: the first f samples are as they were, and what is done, then the sums of what is
--- left, is the answer. Assumes nothing.
+-- `stages::rows::add_at`. The invariant: the first f samples are as they were, and what is done, then the sums of what is left, is the answer.
+-- Assumes nothing.
 use mathlib.Core.Path.{◌≡◌}
 use mathlib.Core.List.{◌++◌}
 use Prim.Native.Nat.{◌+◌, ◌≤◌}

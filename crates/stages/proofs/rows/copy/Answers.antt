@@ -1,4 +1,4 @@
--- `stages::rows::copy` meets its contract. The invariant: the front of src stands over dst. Assumes nothing.
+-- `stages::rows::copy` meets its contract. Assumes nothing.
 use borrow.Author.Rules.{rules}
 use native.Mathlib.Omega.{arith}
 use mathlib.Core.Path.{refl, ◌∙◌}

@@ -1,4 +1,4 @@
--- `stages::rows::copy` meets its contract. The invariant: the front of src stands over dst. Assumes nothing.
+-- `stages::rows::copy`. The invariant: the front of src stands over dst. Assumes nothing.
 use mathlib.Core.Path.{◌≡◌}
 use mathlib.Core.List.{◌++◌}
 use Prim.Native.Nat.{◌≤◌, min}

@@ -1,4 +1,4 @@
--- `stages::rows::divide` meets its contract. The invariant: what is done, then the quotients of what is left. Assumes nothing.
+-- `stages::rows::divide` meets its contract. Assumes nothing.
 use native.Mathlib.Omega.{arith}
 use mathlib.Core.Path.{ap, ◌∙◌}
 use Prim.Native.Nat.{◌≤◌, ◌<◌}

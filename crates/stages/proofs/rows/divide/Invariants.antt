@@ -1,4 +1,4 @@
--- `stages::rows::divide` meets its contract. The invariant: what is done, then the quotients of what is left. Assumes nothing.
+-- `stages::rows::divide`. The invariant: what is done, then the quotients of what is left. Assumes nothing.
 use mathlib.Core.Path.{◌≡◌}
 use mathlib.Core.List.{◌++◌}
 use Prim.Native.Nat.{◌≤◌}

@@ -1,4 +1,4 @@
--- `stages::rows::filters_finite` meets its contract. The invariant: the first i are tested. Assumes nothing.
+-- `stages::rows::filters_finite`. The invariant: the first i are tested. Assumes nothing.
 use mathlib.Core.Path.{◌≡◌}
 use Prim.Native.Nat.{◌≤◌}
 use lib.ListN.{take}

@@ -1,4 +1,4 @@
--- `unit::layout::lengths_of` meets its contract. The invariant: the lengths so far, then those left, are the answer. Assumes nothing.
+-- `unit::layout::lengths_of` meets its contract. Assumes nothing.
 use borrow.Author.Rules.{rules}
 use native.Mathlib.Omega.{arith}
 use mathlib.Core.Path.{◌≡◌, refl, ap, ◌∙◌}

@@ -1,4 +1,4 @@
--- `unit::layout::lengths_of` meets its contract. The invariant: the lengths so far, then those left, are the answer. Assumes nothing.
+-- `unit::layout::lengths_of`. The invariant: the lengths so far, then those left, are the answer. Assumes nothing.
 use mathlib.Core.Path.{◌≡◌}
 use mathlib.Core.List.{◌++◌}
 use Prim.Native.Nat.{◌≤◌, ◌-◌}

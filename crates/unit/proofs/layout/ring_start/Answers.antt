@@ -1,4 +1,4 @@
--- `unit::layout::ring_start` meets its contract. The invariant: where line j begins. Assumes nothing.
+-- `unit::layout::ring_start` meets its contract. Assumes nothing.
 use native.Mathlib.Omega.{arith}
 use native.Mathlib.Numerals.{add-one}
 use mathlib.Core.Path.{◌≡◌, refl, ap, ◌∙◌}

@@ -1,4 +1,4 @@
--- `unit::layout::ring_start` meets its contract. The invariant: where line j begins. Assumes nothing.
+-- `unit::layout::ring_start`. The invariant: where line j begins. Assumes nothing.
 use mathlib.Core.Path.{◌≡◌}
 use Prim.Native.Nat.{◌≤◌}
 use lib.ListN.{take}

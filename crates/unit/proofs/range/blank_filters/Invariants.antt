@@ -1,4 +1,4 @@
--- `unit::range::blank_filters` meets its contract. The invariant: the first i are tested. Assumes nothing.
+-- `unit::range::blank_filters`. The invariant: the first i are tested. Assumes nothing.
 use mathlib.Core.Path.{◌≡◌}
 use Prim.Native.Nat.{◌≤◌}
 use lib.ListN.{take}

@@ -1,4 +1,4 @@
--- `unit::range::cursors_in` meets its contract. The invariant: the first i are tested. Assumes nothing.
+-- `unit::range::cursors_in`. The invariant: the first i are tested. Assumes nothing.
 use mathlib.Core.Path.{◌≡◌}
 use Prim.Native.Nat.{◌≤◌}
 use lib.ListN.{take, get_or}

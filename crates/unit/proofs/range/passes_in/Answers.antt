@@ -1,4 +1,4 @@
--- `unit::range::passes_in` meets its contract. The invariant: the first i are tested. Assumes nothing.
+-- `unit::range::passes_in` meets its contract. Assumes nothing.
 use borrow.Author.Rules.{rules}
 use native.Mathlib.Omega.{arith}
 use mathlib.Core.Path.{refl}

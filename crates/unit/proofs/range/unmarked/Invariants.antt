@@ -1,4 +1,4 @@
--- `unit::range::unmarked` meets its contract. The invariant: the first i are tested. Assumes nothing.
+-- `unit::range::unmarked`. The invariant: the first i are tested. Assumes nothing.
 use mathlib.Core.Path.{◌≡◌}
 use Prim.Native.Nat.{◌≤◌}
 use lib.ListN.{take}

@@ -1,4 +1,4 @@
--- `unit::room::passes_are` meets its contract. The invariant: the first i are tested. Assumes nothing.
+-- `unit::room::passes_are`. The invariant: the first i are tested. Assumes nothing.
 use mathlib.Core.Path.{◌≡◌}
 use Prim.Native.Nat.{◌≤◌}
 use lib.Dec.{eqb}

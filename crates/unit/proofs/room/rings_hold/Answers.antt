@@ -1,4 +1,4 @@
--- `unit::room::rings_hold` meets its contract. The invariant: the first i are tested. Assumes nothing.
+-- `unit::room::rings_hold` meets its contract. Assumes nothing.
 use borrow.Author.Rules.{rules}
 use native.Mathlib.Omega.{arith}
 use mathlib.Core.Path.{refl}

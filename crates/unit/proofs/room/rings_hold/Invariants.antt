@@ -1,4 +1,4 @@
--- `unit::room::rings_hold` meets its contract. The invariant: the first i are tested. Assumes nothing.
+-- `unit::room::rings_hold`. The invariant: the first i are tested. Assumes nothing.
 use mathlib.Core.Path.{◌≡◌}
 use mathlib.Core.Bool.{◌&&◌}
 use Prim.Native.Nat.{◌≤◌}

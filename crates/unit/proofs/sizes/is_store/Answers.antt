@@ -1,4 +1,4 @@
--- `unit::sizes::is_store` meets its contract. The invariant: what is left, and the rings so far, are all. Assumes nothing.
+-- `unit::sizes::is_store` meets its contract. Assumes nothing.
 use borrow.Author.Rules.{rules}
 use native.Mathlib.Omega.{arith}
 use native.Mathlib.Nat.{add-zero}

@@ -1,4 +1,4 @@
--- `unit::sizes::is_store` meets its contract. The invariant: what is left, and the rings so far, are all. Assumes nothing.
+-- `unit::sizes::is_store`. The invariant: what is left, and the rings so far, are all. Assumes nothing.
 use Prim.Native.Nat.{◌+◌, ◌≤◌}
 use mathlib.Core.Path.{◌≡◌}
 use lib.ListN.{take}

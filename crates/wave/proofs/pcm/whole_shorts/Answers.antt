@@ -1,4 +1,4 @@
--- `wave::pcm::whole_shorts` meets its contract. The invariant: what is done, before what the bytes that are left give, is what all give. Assumes nothing.
+-- `wave::pcm::whole_shorts` meets its contract. Assumes nothing.
 use borrow.Author.Rules.{rules}
 use native.Mathlib.Omega.{arith}
 use mathlib.Core.Path.{◌≡◌, refl, ◌∙◌}

@@ -1,4 +1,4 @@
--- `wave::pcm::whole_shorts` meets its contract. The invariant: what is done, before what the bytes that are left give, is what all give. Assumes nothing.
+-- `wave::pcm::whole_shorts`. The invariant: what is done, before what the bytes that are left give, is what all give. Assumes nothing.
 use mathlib.Core.Path.{◌≡◌}
 use mathlib.Core.List.{◌++◌}
 use Prim.Native.Nat.{◌*◌, ◌-◌, ◌≤◌}

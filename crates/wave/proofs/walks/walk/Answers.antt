@@ -1,4 +1,5 @@
--- `wave::walks::walk` meets its contract: what the walk gives from the chunk on at which the loop is, is what it gives from byte 12 on. Assumes nothing.
+-- `wave::walks::walk` meets its contract: what the walk gives from the chunk on at which the loop is, is what it gives from byte 12 on. Assumes
+-- nothing.
 use native.Mathlib.Omega.{arith}
 use mathlib.Core.Path.{◌≡◌, refl, sym, ap, ◌∙◌}
 use mathlib.Core.Bool.{true, false}
@@ -7,7 +8,7 @@ use lib.ListN.{length, drop, length-drop}
 use Rattle.wave.specs.Chunks.{begins, data_name, complete, size_of, span_of, let_by}
 use Rattle.wave.specs.Reading.{data_read}
 use Rattle.wave.proofs.Walking.{complete_room}
-use Rattle.wave.proofs.Turning.{none_left, at_the_data, past_the_end, not_supported, next-turn, met_on}
+use Rattle.wave.proofs.Turning.{none_left, at_the_data, past_the_end, not_supported, next_turn, met_on}
 use Rattle.wave.proofs.walks.walk.Goals.{Else-is_data, Else-not-complete, Else-not-let_by, In-loop-at}
 use Rattle.wave.proofs.walks.walk.Goals as goal
 
@@ -80,7 +81,7 @@ loop-at-preserved c =
     let on : l.at + 8 + c.padded.result ≡ l.at + span_of chunk = rw (c.padded.ensures, c.size_at-in-loop-at.ensures.0) (omega arith) in (
       omega (arith, on, within p.Else-not-complete),
       met_on l.met chunk l.invariant.1 (right p.Else-not-let_by) after,
-      next-turn file l.met l.at (header p.In-loop-at) (whole p.Else-not-complete) (other p.Else-is_data) (right p.Else-not-let_by) after on ∙ l.invariant.2,
+      next_turn file l.met l.at (header p.In-loop-at) (whole p.Else-not-complete) (other p.Else-is_data) (right p.Else-not-let_by) after on ∙ l.invariant.2,
     )
 
 pub returns : goal.returns

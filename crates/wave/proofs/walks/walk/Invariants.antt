@@ -1,4 +1,4 @@
--- `wave::walks::walk` meets its contract: what the walk gives from the chunk on at which the loop is, is what it gives from byte 12 on. Assumes nothing.
+-- What the loop of `wave::walks::walk` keeps. Assumes nothing.
 use mathlib.Core.Path.{◌≡◌}
 use Prim.Native.Nat.{◌+◌, ◌-◌, ◌≤◌}
 use lib.ListN.{length, drop}
