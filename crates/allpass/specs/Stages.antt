@@ -2,12 +2,14 @@
 use Rattle.std.specs.Prelude.{ℕ, zero, suc, ◌+◌, ◌/◌, ◌≡◌, Bool, ◌&&◌, cond, List, [], ◌++◌, leb, Float, length, take, drop}
 use Rattle.samples.specs.Lists.{over}
 use Rattle.delay.specs.declared.Cursors.{Cursors}
-use Rattle.delay.specs.declared.Four.{Four}
 use Rattle.delay.specs.Ring.{list_of, four_of}
-use Rattle.allpass.specs.declared.Turned.{Turned}
 use Rattle.allpass.specs.Passes.{Stage, stage_out, stage_end, pass_out, pass_end}
 
 -- ---- one stage over a row
+
+-- the stage of an x ring and a y ring with their cursors
+abbrev pub stage : List Float → Cursors → List Float → Cursors → Stage
+stage x xs y ys = record { x = x; xs = xs; y = y; ys = ys }
 
 -- a stage's rings lie one after the other: the x ring is the first lx samples, the y ring the others
 abbrev pub stage_of : ℕ → Cursors → Cursors → List Float → Stage
@@ -19,10 +21,6 @@ both_rings s = s.x ++ s.y
 -- the stage whose rings, of lx and ly samples, lie in w from `at` on
 abbrev pub stage_in : ℕ → ℕ → ℕ → Cursors → Cursors → List Float → Stage
 stage_in at lx ly cx cy w = stage_of lx cx cy (take (lx + ly) (drop at w))
-
--- what a stage hands on of the four samples x: where its cursors are then, and the four that go on
-abbrev pub turned : Stage → Four → Turned
-turned s x = record { xs = (stage_end s x).xs; ys = (stage_end s x).ys; y = stage_out s x }
 
 -- w after n fours, from place t on: those that go on take their places, the rings are the stage's after them, all else is as it was
 unfoldable pub passed : ℕ → ℕ → ℕ → ℕ → ℕ → Cursors → Cursors → List Float → List Float

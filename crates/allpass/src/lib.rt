@@ -4,26 +4,16 @@
 // stage in a lent stretch.
 #![tactic(auto)]
 
-ghost use Rattle.std.specs.Prelude.{◌≡◌, ◌+◌, ◌≤◌, length, drop};
-ghost use Rattle.samples.specs.Lists.{over};
-ghost use Rattle.delay.specs.Ring.{list_of, four_of};
-ghost use Rattle.allpass.specs.Passes.{allpass, allpass4, stage_end};
-ghost use Rattle.allpass.specs.Stages.{stage_of, both_rings, stage_in, passed, parts_fit, staged, turned};
+ghost use Rattle.std.specs.Prelude.{◌≡◌, ◌/◌, ◌%◌, length};
+ghost use Rattle.allpass.specs.Passes.{allpass, allpass4, stage_out, stage_end, pass_out, pass_end};
+ghost use Rattle.allpass.specs.Stages.{stage, parts_fit, staged};
 
 use delay::{Cursors, Four, get4, put4};
-use samples::and;
-
-// What four samples leave: the cursors of the two rings, and the four that go on.
-#[derive(Clone, Copy)]
-struct Turned {
-    xs: Cursors,
-    ys: Cursors,
-    y: Four,
-}
 
 // Runs one allpass stage over the first f samples of w, by whole fours. Its x ring is the lx
 // samples from `at` on, its y ring the ly samples after those. Where these parts do not fit into w,
 // nothing changes (R3.35, R3.37).
+#[tactic(auto, using(crate::proofs::Stages::fit_parts, crate::proofs::Stages::staged_not))]
 pub fn pass_stage(
     w: &mut [f32],
     f: usize,
@@ -38,86 +28,49 @@ pub fn pass_stage(
     if !parts_fit(f, at, lx, ly, w.len()) {
         return;
     }
-    let mut xs = cx;
-    let mut ys = cy;
-    let mut t = 0usize;
-    while t + 4 <= f {
-        let r = pass_four(w, t, at, lx, ly, xs, ys);
-        xs = r.xs;
-        ys = r.ys;
-        t += 4;
-    }
+    let (row, rings) = w.split_at_mut(at);
+    let (xs, rest) = rings.split_at_mut(lx);
+    pass_row(&mut row[..f / 4 * 4], xs, &mut rest[..ly], cx, cy);
 }
 
 // Whether a row of f samples lies before `at`, and rings of lx and ly samples from there on within l.
+#[tactic(auto, unfolding(crate::specs::Stages::parts_fit))]
 fn parts_fit(f: usize, at: usize, lx: usize, ly: usize, l: usize) -> bool
     ensures { result ≡ parts_fit f at lx ly l }
 {
-    if l < at {
-        return false;
-    }
-    let rest = l - at;
-    if rest < lx {
-        return false;
-    }
-    and(f <= at, ly <= rest - lx)
+    f <= at && at <= l && lx <= l - at && ly <= l - at - lx
 }
 
-// Sends four samples of w, those from place t on, through the stage.
-fn pass_four(
-    w: &mut [f32],
-    t: usize,
-    at: usize,
-    lx: usize,
-    ly: usize,
-    cx: Cursors,
-    cy: Cursors,
-) -> Turned
-    requires { (t + 4 ≤ at) × (at + (lx + ly) ≤ length w.old) }
-    ensures value { result ≡ turned (stage_in at lx ly cx cy w.old) (four_of (drop t w.old)) }
-    ensures w_after { w.new ≡ passed 1 t at lx ly cx cy w.old }
+// Sends a row of whole fours through the stage of these two rings and their cursors.
+// Kept (3): the fours go by index. By `chunks_exact_mut` the proof didn't close: once its loan is over nothing is known of the
+// row but its length.
+fn pass_row(row: &mut [f32], xs: &mut [f32], ys: &mut [f32], mut cx: Cursors, mut cy: Cursors)
+    requires { length row.old % 4 ≡ 0 }
+    ensures row_after { row.new ≡ pass_out (length row.old / 4) (stage xs.old cx ys.old cy) row.old }
+    ensures xs_after { xs.new ≡ (pass_end (length row.old / 4) (stage xs.old cx ys.old cy) row.old).x }
+    ensures ys_after { ys.new ≡ (pass_end (length row.old / 4) (stage xs.old cx ys.old cy) row.old).y }
 {
-    let end = at + (lx + ly);
-    let x = read_four(w, t);
-    let r = turn(&mut w[at..end], lx, cx, cy, x);
-    let y = r.y;
-    store_four(w, t, y);
-    r
+    for i in 0..row.len() / 4 {
+        let four = &mut row[4 * i..4 * i + 4];
+        let x = Four(four[0], four[1], four[2], four[3]);
+        let y = turn(xs, ys, &mut cx, &mut cy, x);
+        four.copy_from_slice(&<[f32; 4]>::from(y));
+    }
 }
 
 // Takes four samples out of both rings, and puts x and what goes on of it.
-fn turn(rings: &mut [f32], lx: usize, cx: Cursors, cy: Cursors, x: Four) -> Turned
-    requires { lx ≤ length rings.old }
-    ensures value { result ≡ turned (stage_of lx cx cy rings.old) x }
-    ensures rings_after { rings.new ≡ both_rings (stage_end (stage_of lx cx cy rings.old) x) }
+// Kept (5): a ring and its cursors stay two parameters. A struct of both would hold the loan of the ring, and its cursors would
+// be read into a variable before each of the four calls.
+fn turn(xs: &mut [f32], ys: &mut [f32], cx: &mut Cursors, cy: &mut Cursors, x: Four) -> Four
+    ensures value { result ≡ stage_out (stage xs.old cx.old ys.old cy.old) x }
+    ensures rings_after { stage xs.new cx.new ys.new cy.new ≡ stage_end (stage xs.old cx.old ys.old cy.old) x }
 {
-    let xm = get4(&rings[..lx], cx);
-    let ym = get4(&rings[lx..], cy);
+    let xm = get4(xs, *cx);
+    let ym = get4(ys, *cy);
     let y = allpass4(x, xm.x, ym.x);
-    let px = put4(&mut rings[..lx], xm.cursors, x);
-    let py = put4(&mut rings[lx..], ym.cursors, y);
-    let xs = px.cursors;
-    let ys = py.cursors;
-    Turned { xs, ys, y }
-}
-
-// The four samples from place t on.
-fn read_four(w: &[f32], t: usize) -> Four
-    requires { t + 4 ≤ length w.now }
-    ensures { result ≡ four_of (drop t w.now) }
-{
-    Four(w[t], w[t + 1], w[t + 2], w[t + 3])
-}
-
-// Puts four samples in the place of those from t on.
-fn store_four(w: &mut [f32], t: usize, y: Four)
-    requires { t + 4 ≤ length w.old }
-    ensures { w.new ≡ over t (list_of y) w.old }
-{
-    w[t] = y.0;
-    w[t + 1] = y.1;
-    w[t + 2] = y.2;
-    w[t + 3] = y.3;
+    *cx = put4(xs, xm.cursors, x).cursors;
+    *cy = put4(ys, ym.cursors, y).cursors;
+    y
 }
 
 // What goes on of four samples.
@@ -136,6 +89,7 @@ fn allpass4(x: Four, xm: Four, ym: Four) -> Four
 const GAIN: f32 = 0.25;
 
 // What goes on of one sample.
+#[tactic(auto, unfolding(crate::specs::Passes::allpass))]
 fn allpass(x: f32, xm: f32, ym: f32) -> f32
     ensures { result ≡ allpass x xm ym }
 {

@@ -1,4 +1,5 @@
 -- What the judgements tell, how long the lists are, and where each sample lies: interleaving and back is nothing. Assumes nothing.
+use Rattle.std.specs.Prelude.{Err}
 use mathlib.Core.Path.{◌≡◌, refl, sym, ap, ◌∙◌}
 use mathlib.Core.Bool.{true, ◌&&◌}
 use mathlib.Core.List.{List}
@@ -10,8 +11,8 @@ use lib.ListN.{length, get_or, drop, length-append, get_or-append}
 use lib.Seq.{get_or-drop, get_or-append-add, ext_get_or}
 use lib.Ieee.{Float, nan}
 use borrow.Author.Tests.{leb-true, ltb-true, eqb-true}
-use Rattle.samples.specs.declared.Answer.{Answer}
-use Rattle.samples.specs.declared.Answer.TheVariants.{Accepted, BadLength, BadIndex}
+use Rattle.samples.specs.Answers.{Answer, Accepted}
+use Rattle.samples.specs.declared.Refusal.TheVariants.{BadLength, BadIndex}
 use Rattle.samples.proofs.Laws.{needed, split_and}
 use Rattle.samples.proofs.Rows.{row_ends}
 use Rattle.audio_buffer.specs.Judges.{channels_ok, samples_ok, judged_buffer_then, judged_two, judged_channel}
@@ -38,8 +39,8 @@ pub judged_of_lem : (channels samples len : ℕ) (rest : Answer) → judged_buff
     → Counts channels samples × (len ≡ channels * samples) × (rest ≡ Accepted)
 unfolding judged_buffer_then
 judged_of_lem channels samples len rest e =
-    let p = needed (channels_ok channels && samples_ok samples) BadIndex _ refl e in
-    let q = needed (eqb len (channels * samples)) BadLength rest refl p.1 in
+    let p = needed (channels_ok channels && samples_ok samples) (Err BadIndex) _ refl e in
+    let q = needed (eqb len (channels * samples)) (Err BadLength) rest refl p.1 in
     (counts_of channels samples p.0, eqb-true _ _ q.0, q.1)
 
 pub two_of : (channels samples len other : ℕ) → judged_two channels samples len other ≡ Accepted
@@ -54,12 +55,12 @@ pub channel_of : (channels samples channel len : ℕ) → judged_channel channel
     → channel * samples + samples ≤ len
 channel_of channels samples channel len e =
     let p = judged_of_lem channels samples len _ e in
-    let q = needed (ltb channel channels) BadIndex Accepted refl p.2 in
+    let q = needed (ltb channel channels) (Err BadIndex) Accepted refl p.2 in
     omega (arith, row_ends channel channels samples (ltb-true _ _ q.0))
 
 -- ---- layouts
 
-column-length : (row n : ℕ) (xs : List Float) → length (first_of_each row n xs) ≡ n
+pub column-length : (row n : ℕ) (xs : List Float) → length (first_of_each row n xs) ≡ n
 column-length row zero xs = refl
 column-length row (suc n) xs = ap suc (column-length row n (drop row xs))
 
@@ -72,7 +73,7 @@ module _ (xs : List Float) where
   nth : {i j : ℕ} → i ≡ j → get_or xs i nan ≡ get_or xs j nan
   nth e = ap (λ (k : ℕ). get_or xs k nan) e
 
-column_at : (row n : ℕ) (xs : List Float) (r : ℕ) → r < n → get_or (first_of_each row n xs) r nan ≡ get_or xs (r * row) nan
+pub column_at : (row n : ℕ) (xs : List Float) (r : ℕ) → r < n → get_or (first_of_each row n xs) r nan ≡ get_or xs (r * row) nan
 column_at row zero xs r h = absurd (not-suc-le-zero h)
 column_at row (suc n) xs zero h = rw zero-mul
 column_at row (suc n) xs (suc r) h =

@@ -1,8 +1,7 @@
 -- What the buffer helpers refuse (R7.10 to R7.13).
-use Rattle.std.specs.Prelude.{◌≡◌, Bool, ◌&&◌, ℕ, ◌*◌, leb, ltb, eqb}
-use Rattle.samples.specs.declared.Answer.{Answer}
-use Rattle.samples.specs.declared.Answer.TheVariants.{Accepted, BadLength, BadIndex}
-use Rattle.samples.specs.Answers.{need}
+use Rattle.std.specs.Prelude.{◌≡◌, Bool, ◌&&◌, ℕ, ◌*◌, leb, ltb, eqb, Err}
+use Rattle.samples.specs.declared.Refusal.TheVariants.{BadLength, BadIndex}
+use Rattle.samples.specs.Answers.{Answer, Accepted, need}
 
 -- R1.5: how many channels, and how many samples in each
 unfoldable pub channels_ok : ℕ → Bool
@@ -15,7 +14,7 @@ samples_ok samples = leb samples 65536
 -- is no number where a count is bad (R2.5)
 unfoldable pub judged_buffer_then : ℕ → ℕ → ℕ → Answer → Answer
 judged_buffer_then channels samples len rest =
-    need (channels_ok channels && samples_ok samples) BadIndex (need (eqb len (channels * samples)) BadLength rest)
+    need (channels_ok channels && samples_ok samples) (Err BadIndex) (need (eqb len (channels * samples)) (Err BadLength) rest)
 
 -- a call that is lent two buffers
 abbrev pub judged_two : ℕ → ℕ → ℕ → ℕ → Answer
@@ -23,8 +22,8 @@ judged_two channels samples len other = judged_buffer_then channels samples len 
 
 -- R7.13: the channel, 4 after 3
 abbrev pub judged_channel : ℕ → ℕ → ℕ → ℕ → Answer
-judged_channel channels samples channel len = judged_buffer_then channels samples len (need (ltb channel channels) BadIndex Accepted)
+judged_channel channels samples channel len = judged_buffer_then channels samples len (need (ltb channel channels) (Err BadIndex) Accepted)
 
 -- R7.13: of two faults the one that is judged first, at three requests
 abbrev pub ChannelOrder : Type 0
-ChannelOrder = (judged_channel 17 3 17 0 ≡ BadIndex) × (judged_channel 2 3 2 7 ≡ BadLength) × (judged_channel 2 3 2 6 ≡ BadIndex)
+ChannelOrder = (judged_channel 17 3 17 0 ≡ Err BadIndex) × (judged_channel 2 3 2 7 ≡ Err BadLength) × (judged_channel 2 3 2 6 ≡ Err BadIndex)

@@ -3,16 +3,16 @@
 // frames says of the tail.
 #![tactic(auto)]
 
-ghost use Rattle.std.specs.Prelude.{◌≡◌, [], ◌*◌, length, take, drop};
-ghost use Rattle.samples.specs.Answers.{accept};
+ghost use Rattle.std.specs.Prelude.{◌≡◌, [], ◌*◌, ◌<◌, length, take, drop};
+ghost use Rattle.samples.specs.Answers.{Accepted, accept};
 ghost use Rattle.audio_buffer.specs.Verdict.{verdict_of};
 ghost use Rattle.audio_buffer.specs.Judges.{channels_ok, judged_buffer_then, judged_two, judged_channel};
-ghost use Rattle.audio_buffer.specs.Layout.{columns, interleaved, deinterleaved};
+ghost use Rattle.audio_buffer.specs.Layout.{first_of_each, columns, interleaved, deinterleaved};
 
-use samples::{Answer, Frames, and, is_accepted, need};
+use samples::{Answer, Frames, Refusal, need};
 
 // Whether a unit still sounds after its input has ended.
-#[derive(Clone, Copy)]
+#[derive(Clone, Copy, Debug, PartialEq, Eq)]
 pub enum AudioEffectState {
     TailRemaining,
     TailComplete,
@@ -24,6 +24,7 @@ const MOST_CHANNELS: usize = 16;
 pub const MOST_SAMPLES: usize = 65536;
 
 // What a count of frames says of the tail (R4.22).
+// Kept (4): no plainer. The definition has the name, and `AudioEffectState::from(count)` at each call would hide that a count is judged.
 pub fn verdict(count: Frames) -> AudioEffectState
     ensures { result ≡ verdict_of count.0 }
 {
@@ -35,53 +36,59 @@ pub fn verdict(count: Frames) -> AudioEffectState
 }
 
 // Whether a buffer may have that many channels.
+#[tactic(auto, unfolding(crate::specs::Judges::channels_ok))]
 fn channels_ok(channels: usize) -> bool
     ensures { result ≡ channels_ok channels }
 {
-    and(1 <= channels, channels <= MOST_CHANNELS)
+    (1 <= channels) & (channels <= MOST_CHANNELS)
 }
 
-// Judges the counts, then the length of a slice that is to hold them, then what `rest`
-// says (R7.10, R7.11).
-pub fn judge_then(channels: usize, samples: usize, len: usize, rest: Answer) -> Answer
-    ensures { result ≡ judged_buffer_then channels samples len rest }
+// Judges the counts, then the length of a slice that is to hold them (R7.10, R7.11).
+#[tactic(auto, unfolding(crate::specs::Judges::judged_buffer_then))]
+pub fn judge_buffer(channels: usize, samples: usize, len: usize) -> Answer
+    ensures { result ≡ judged_buffer_then channels samples len Accepted }
 {
-    if and(channels_ok(channels), samples <= MOST_SAMPLES) {
-        need(len == channels * samples, Answer::BadLength, rest)
-    } else {
-        Answer::BadIndex
-    }
+    need(
+        channels_ok(channels) & (samples <= MOST_SAMPLES),
+        Refusal::BadIndex,
+    )?;
+    need(len == channels * samples, Refusal::BadLength)
 }
 
 // Judges a call that is lent two buffers of one size (R7.10, R7.11).
+#[tactic(auto, unfolding(crate::specs::Judges::judged_buffer_then))]
 pub fn judge_two(channels: usize, samples: usize, len: usize, other: usize) -> Answer
     ensures { result ≡ judged_two channels samples len other }
 {
-    judge_then(
-        channels,
-        samples,
-        len,
-        judge_then(channels, samples, other, Answer::Accepted),
-    )
+    judge_buffer(channels, samples, len)?;
+    judge_buffer(channels, samples, other)
 }
 
 // Writes the columns of `rows` rows of `row` samples, one column after another.
+// Kept (3): a column goes by its index, and std says nothing of what `chunks_mut` leaves.
 fn transpose(rows: usize, row: usize, source: &[f32], target: &mut [f32])
     requires { (length source.now ≡ rows * row) × (length target.old ≡ rows * row) }
     ensures { target.new ≡ columns row rows row source.now }
 {
-    let mut at = 0;
     for t in 0..row {
-        let mut from = t;
-        for r in 0..rows {
-            target[at] = source[from];
-            at += 1;
-            from += row;
-        }
+        let at = t * rows;
+        write_column(row, t, source, &mut target[at..at + rows]);
+    }
+}
+
+// Writes column t of rows of `row` samples, a sample of each.
+// Kept (3): zipped with the samples read, `iter_mut` leaves no proof of what was written.
+fn write_column(row: usize, t: usize, source: &[f32], column: &mut [f32])
+    requires { (t < row) × (length source.now ≡ length column.old * row) }
+    ensures { column.new ≡ first_of_each row (length column.old) (drop t source.now) }
+{
+    for (r, sample) in column.iter_mut().enumerate() {
+        *sample = source[t + r * row];
     }
 }
 
 // Writes a buffer frame after frame (R7.2).
+#[tactic(auto, using(crate::proofs::Laws::two_of))]
 pub fn write_interleaved(
     channels: usize,
     samples: usize,
@@ -91,14 +98,13 @@ pub fn write_interleaved(
     ensures value { result ≡ judged_two channels samples (length buffer.now) (length target.old) }
     ensures target_after { target.new ≡ accept (judged_two channels samples (length buffer.now) (length target.old)) (interleaved channels samples buffer.now) target.old }
 {
-    let answer = judge_two(channels, samples, buffer.len(), target.len());
-    if is_accepted(answer) {
-        transpose(channels, samples, buffer, target);
-    }
-    answer
+    judge_two(channels, samples, buffer.len(), target.len())?;
+    transpose(channels, samples, buffer, target);
+    Ok(())
 }
 
 // Reads a buffer that lies frame after frame (R7.3).
+#[tactic(auto, using(crate::proofs::Laws::two_of))]
 pub fn read_interleaved(
     channels: usize,
     samples: usize,
@@ -108,23 +114,18 @@ pub fn read_interleaved(
     ensures value { result ≡ judged_two channels samples (length source.now) (length buffer.old) }
     ensures buffer_after { buffer.new ≡ accept (judged_two channels samples (length source.now) (length buffer.old)) (deinterleaved channels samples source.now) buffer.old }
 {
-    let answer = judge_two(channels, samples, source.len(), buffer.len());
-    if is_accepted(answer) {
-        transpose(samples, channels, source, buffer);
-    }
-    answer
+    judge_two(channels, samples, source.len(), buffer.len())?;
+    transpose(samples, channels, source, buffer);
+    Ok(())
 }
 
 // Judges the request for one channel of a buffer that is `len` samples long (R7.13).
+#[tactic(auto, unfolding(crate::specs::Judges::judged_buffer_then))]
 pub fn channel_number(channels: usize, samples: usize, channel: usize, len: usize) -> Answer
     ensures { result ≡ judged_channel channels samples channel len }
 {
-    judge_then(
-        channels,
-        samples,
-        len,
-        need(channel < channels, Answer::BadIndex, Answer::Accepted),
-    )
+    judge_buffer(channels, samples, len)?;
+    need(channel < channels, Refusal::BadIndex)
 }
 
 // Hands out one channel: the buffer's own stretch, or the empty one where `channel_number`
@@ -132,12 +133,11 @@ pub fn channel_number(channels: usize, samples: usize, channel: usize, len: usiz
 pub fn channel(buffer: &[f32], channels: usize, samples: usize, channel: usize) -> &[f32]
     ensures { result.now ≡ accept (judged_channel channels samples channel (length buffer.now)) (take samples (drop (channel * samples) buffer.now)) [] }
 {
-    let answer = channel_number(channels, samples, channel, buffer.len());
-    if is_accepted(answer) {
-        let at = channel * samples;
-        let end = at + samples;
-        &buffer[at..end]
-    } else {
-        &buffer[0..0]
+    match channel_number(channels, samples, channel, buffer.len()) {
+        Ok(()) => {
+            let at = channel * samples;
+            &buffer[at..at + samples]
+        }
+        Err(_) => &buffer[..0],
     }
 }

@@ -1,16 +1,18 @@
 -- The count of a tail: its range, and the ceiling by way of the whole part. Assumes nothing.
+use Rattle.std.specs.Prelude.{Err}
 use Rattle.std.proofs.Common.{◌≡◌, ℕ, ◌+◌, ◌-◌, ◌*◌, ◌/◌, ◌^◌, ◌<◌, ◌≤◌, Bool, true, false, cond, ◌&&◌, T, eqb, ltb, ℤ, pos, sym, refl, ap, ◌∙◌, true≢false, mod-lt, div-lt_iff_lt-mul, add-mul, lt_of_mul-lt-mul_right, one-mul, div-add-mod', zero-mul, mul-one, mul_right_comm, le_of_mul-le-mul_right, arith, lit<, eqb→eq, ltb-false, ltb-true}
 use native.Mathlib.Nat.{div-eq_of_lt-le}
 use lib.Ieee.{Float, nan, inf, fin, binary32, up, down, le, lt, eq, of_bits, of_int, to_unsigned}
 use lib.Ieee.Fits.{up_pos, down_pos, and_l}
 use lib.Ieee.Exact.{HasValue, round_exact}
 use Rattle.samples.specs.Binary32.{+0}
-use Rattle.samples.specs.declared.Answer.TheVariants.{Accepted, BadSize, BadTime}
+use Rattle.samples.specs.declared.Refusal.TheVariants.{BadSize, BadTime}
+use Rattle.samples.specs.Answers.{Accepted}
 use Rattle.samples.specs.Sizes.{rate_ok, frame_ok}
 use Rattle.samples.proofs.Laws.{split_and, needed, accept_either, Rate, rate_of, Frame, frame_of}
 use Rattle.bands.specs.declared.Times.{Times}
 use Rattle.bands.specs.Times.{time_ok, times_ok, larger, largest}
-use Rattle.bands.specs.Tail.{ceiling, frames_in, judged_tail_count, tail_count, count_of, CountRange, NoTail}
+use Rattle.bands.specs.Tail.{ceiling, frames_in, judged_tail_count, tail_count, CountRange, NoTail}
 use Rattle.bands.proofs.Bounds.{Upto, Held, held, whole_exact, value_upto, mul_upto, div_upto, quotient_upto, whole_upto, none_of, zero_upto, lt_or_eq}
 
 -- ---- a time in range is a number up to 100
@@ -125,19 +127,15 @@ pub record Counts (t : Times) (rate frame : ℕ) : Type 0 where
 
 pub counts : (t : Times) (rate frame : ℕ) → judged_tail_count t rate frame ≡ Accepted → Counts t rate frame
 counts t rate frame e =
-    let p = needed (rate_ok rate && frame_ok frame) BadSize _ refl e in
+    let p = needed (rate_ok rate && frame_ok frame) (Err BadSize) _ refl e in
     let s = split_and _ _ p.0 in
-    record { rates = rate_of rate s.0; frames = frame_of frame s.1; time = largest_ok t (needed (times_ok t) BadTime Accepted refl p.1).0 }
+    record { rates = rate_of rate s.0; frames = frame_of frame s.1; time = largest_ok t (needed (times_ok t) (Err BadTime) Accepted refl p.1).0 }
 
 tail_upto : (t : Times) (rate frame : ℕ) → judged_tail_count t rate frame ≡ Accepted → tail_count t rate frame ≤ 9600000
 tail_upto t rate frame e =
     let k = counts t rate frame e in
     let h = frames_upto (largest t) rate frame (time_upto (largest t) k.time) k.rates.hi k.frames.lo k.frames.hi in
     omega (arith, ceiling_upto (frames_in (largest t) rate frame) 4800000 h)
-
--- the count of an accepted call
-pub count_yes : (t : Times) (rate frame : ℕ) → judged_tail_count t rate frame ≡ Accepted → count_of t rate frame ≡ tail_count t rate frame
-count_yes t rate frame e = rw e refl
 
 pub count_range : CountRange
 count_range t rate frame = accept_either (λ (n : ℕ). n ≤ 9600000) (judged_tail_count t rate frame) (tail_upto t rate frame) (λ e. omega arith)

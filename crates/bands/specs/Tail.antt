@@ -1,11 +1,10 @@
 -- How many frames a tail lasts: step 6 of an apply (R6.1 to R6.6).
-use Rattle.std.specs.Prelude.{◌≡◌, ℕ, zero, suc, ◌+◌, ◌-◌, ◌*◌, ◌/◌, ◌^◌, ◌≤◌, min, true, false, cond, ◌&&◌, ℤ, pos, negsuc, Float}
+use Rattle.std.specs.Prelude.{◌≡◌, ℕ, zero, suc, ◌+◌, ◌-◌, ◌*◌, ◌/◌, ◌^◌, ◌≤◌, min, true, false, cond, ◌&&◌, ℤ, pos, negsuc, Float, Err}
 use Rattle.std.specs.Float.{nan, inf, fin, binary32}
 use Rattle.std.specs.Float.Ieee.{up, down, eq, of_int}
 use Rattle.std.specs.Float.Ieee.Exact.{HasValue}
-use Rattle.samples.specs.declared.Answer.{Answer}
-use Rattle.samples.specs.declared.Answer.TheVariants.{Accepted, BadSize, BadTime}
-use Rattle.samples.specs.Answers.{need, accept}
+use Rattle.samples.specs.declared.Refusal.TheVariants.{BadSize, BadTime}
+use Rattle.samples.specs.Answers.{Answer, Accepted, need, accept}
 use Rattle.samples.specs.Binary32.{+0, ◌⊗◌, ◌⊘◌}
 use Rattle.samples.specs.Sizes.{rate_ok, frame_ok}
 use Rattle.bands.specs.declared.Times.{Times}
@@ -27,7 +26,7 @@ tail_count t rate frame = 2 * ceiling (frames_in (largest t) rate frame)
 
 -- R6.6: 2, then 6
 abbrev pub judged_tail_count : Times → ℕ → ℕ → Answer
-judged_tail_count t rate frame = need (rate_ok rate && frame_ok frame) BadSize (need (times_ok t) BadTime Accepted)
+judged_tail_count t rate frame = need (rate_ok rate && frame_ok frame) (Err BadSize) (need (times_ok t) (Err BadTime) Accepted)
 
 -- R6.6: the count that is given, and 0 by a refused call
 abbrev pub count_of : Times → ℕ → ℕ → ℕ

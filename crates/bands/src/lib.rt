@@ -9,7 +9,7 @@ ghost use Rattle.samples.specs.Sizes.{highest_rate, shortest_frame, longest_fram
 ghost use Rattle.bands.specs.Times.{time_ok, times_ok, larger, largest};
 ghost use Rattle.bands.specs.Tail.{ceiling, frames_in, judged_tail_count, count_of, fallen};
 
-use samples::{Answer, Frames, and, frame_ok, is_accepted, need, rate_ok};
+use samples::{Answer, Frames, Refusal, frame_ok, need, rate_ok};
 
 // The reverb time of each band, in seconds.
 #[repr(C)]
@@ -20,7 +20,8 @@ pub struct Times {
     pub high: f32,
 }
 
-// An answer with a count of frames: 0 where the call is refused.
+// An answer with a count of frames.
+// Kept (1): R6.6 has a refused call give 0, and an `Err` would give none.
 #[derive(Clone, Copy)]
 pub struct Counted {
     pub answer: Answer,
@@ -28,27 +29,33 @@ pub struct Counted {
 }
 
 // Whether a reverb time is one that the unit takes (R1.3).
+#[tactic(auto, unfolding(crate::specs::Times::time_ok))]
 pub fn time_ok(time: f32) -> bool
     ensures { result ≡ time_ok time }
 {
-    and(0.0 <= time, time <= 100.0)
+    (0.0 <= time) & (time <= 100.0)
 }
 
 // Whether the unit takes all three times (R1.3).
 pub fn times_ok(t: Times) -> bool
     ensures { result ≡ times_ok t }
 {
-    and(time_ok(t.low), and(time_ok(t.mid), time_ok(t.high)))
+    time_ok(t.low) & (time_ok(t.mid) & time_ok(t.high))
 }
 
 // The larger of two times; where one is no number, the other.
+// Kept (2): std's `max` leaves open which of two equal numbers it gives, as 0 and -0; here the first.
+#[tactic(auto, unfolding(crate::specs::Times::larger))]
 fn larger(x: f32, y: f32) -> f32
     ensures { result ≡ larger x y }
 {
     if x < y {
-        return y;
+        y
+    } else if x == x {
+        x
+    } else {
+        y
     }
-    if x == x { x } else { y }
 }
 
 // The largest of the three times, by which the tail is counted (R6.1).
@@ -62,18 +69,18 @@ pub fn largest(t: Times) -> f32
 pub fn tail_count(t: Times, rate: u32, frame: usize) -> Counted
     ensures { result ≡ record { answer = judged_tail_count t rate frame; count = record { 0 = pos (count_of t rate frame) } } }
 {
-    let answer = judge(t, rate, frame);
-    if is_accepted(answer) {
-        let frames = frames_in(largest(t), rate, frame as u32);
-        Counted {
-            answer,
-            count: Frames((2 * frames) as i32),
+    match judge(t, rate, frame) {
+        Ok(()) => {
+            let frames = frames_in(largest(t), rate, frame as u32);
+            Counted {
+                answer: Ok(()),
+                count: Frames((2 * frames) as i32),
+            }
         }
-    } else {
-        Counted {
-            answer,
+        Err(refusal) => Counted {
+            answer: Err(refusal),
             count: Frames(0),
-        }
+        },
     }
 }
 
@@ -81,11 +88,8 @@ pub fn tail_count(t: Times, rate: u32, frame: usize) -> Counted
 fn judge(t: Times, rate: u32, frame: usize) -> Answer
     ensures { result ≡ judged_tail_count t rate frame }
 {
-    need(
-        and(rate_ok(rate), frame_ok(frame)),
-        Answer::BadSize,
-        need(times_ok(t), Answer::BadTime, Answer::Accepted),
-    )
+    need(rate_ok(rate) & frame_ok(frame), Refusal::BadSize)?;
+    need(times_ok(t), Refusal::BadTime)
 }
 
 // How many frames it takes to cover a time, a part of a frame counted as a whole one.
@@ -108,10 +112,5 @@ fn frames_in(time: f32, rate: u32, frame: u32) -> u32
 pub fn fallen(count: Frames) -> Frames
     ensures { result ≡ record { 0 = fallen count.0 } }
 {
-    let n = count.0;
-    if n == -2147483648 {
-        count
-    } else {
-        Frames(n - 1)
-    }
+    Frames(count.0.saturating_sub(1))
 }

@@ -1,13 +1,12 @@
 -- The turns of the loop over a line alone: what holds as sample i is put, why it holds at the next, and what it says at the end. Assumes
 -- nothing.
 use mathlib.Core.Path.{◌≡◌, refl, sym, ap, ◌∙◌}
-use mathlib.Core.List.{List, [], ◌∷◌, ◌++◌, append-nil}
-use Prim.Native.Nat.{ℕ, suc, ◌+◌, ◌-◌, ◌<◌, ◌≤◌}
-use native.Mathlib.Numerals.{add-one}
+use mathlib.Core.List.{List, [], ◌∷◌, ◌++◌}
+use Prim.Native.Nat.{ℕ, ◌+◌, ◌-◌, ◌<◌, ◌≤◌}
 use native.Mathlib.Omega.{arith}
 use lib.Ieee.{Float, nan}
 use lib.ListN.{length, get_or, take, drop, set, length-set, drop_of_length-le}
-use lib.Seq.{drop-set-lt, sets-eq}
+use lib.Seq.{drop-set-lt}
 use Rattle.samples.proofs.Turns.{next, stored}
 use Rattle.iir.specs.declared.Bands.{Bands}
 use Rattle.iir.specs.Runs.{bands_out, bands_end}
@@ -55,14 +54,6 @@ firsts_and_rest (x ∷ []) h = absurd (omega arith)
 firsts_and_rest (x ∷ y ∷ []) h = absurd (omega arith)
 firsts_and_rest (x ∷ y ∷ z ∷ []) h = absurd (omega arith)
 firsts_and_rest (x ∷ y ∷ z ∷ w ∷ xs) h = refl
-
-pub last-four : (at : ℕ) (y : Four) (xs : List Float) → at + 4 ≡ length xs
-    → set (set (set (set xs at y.v0) (at + 1) y.v1) (at + 2) y.v2) (at + 3) y.v3 ≡ take at xs ++ in_turn y
-last-four at y xs e =
-    let two : at + 2 ≡ suc (suc at) = omega arith in
-    let three : at + 3 ≡ suc (suc (suc at)) = omega arith in
-    let none = drop_of_length-le xs {i = at + 4} (omega arith) in
-    rw (two, three, add-one at) (sets-eq (in_turn y) xs at (omega arith) ∙ rw (none, append-nil) refl)
 
 -- a row whose first four samples have begun it, and whose last four are put
 pub line_done : (b : Bands) (xs₀ xs last : List Float) (l : Lanes) (r : Last) → 4 ≤ length xs₀

@@ -5,7 +5,7 @@ use Prim.Native.Nat.{ℕ, zero, suc, ◌+◌, ◌*◌, ◌<◌}
 use native.Mathlib.Nat.{le-add_right}
 use native.Mathlib.Omega.{arith}
 use lib.Ieee.{Float, nan}
-use lib.ListN.{length, get_or, take, drop, set, length-set}
+use lib.ListN.{length, get_or, take, drop, set}
 use lib.Seq.{drop-drop, take-set-le, take-set-lt, drop-set-lt, drop-set-add, get_or-take, get_or-drop}
 use Rattle.samples.specs.Lists.{row}
 use Rattle.samples.proofs.Rows.{next_row}
@@ -50,10 +50,6 @@ module _ (f : ℕ) where
         (rest_all ys (drop f rows))
 
 -- ---- the column of four rows
-
-pub put_length : (f t : ℕ) (rows : List Float) (y : Four) → length (four_put f t y rows) ≡ length rows
-unfolding four_put
-put_length f t rows y = simp length-set refl
 
 module _ (f t : ℕ) (h : t < f) (rows : List Float) where
   pub column_at : (k : ℕ) → k < 4 → at k (four_at f t rows) ≡ get_or (row f k rows) t nan

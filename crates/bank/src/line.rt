@@ -1,5 +1,7 @@
 // A line alone: its three bands side by side, each two samples behind the one before it. What a band
 // takes in is then known two turns before, and the three go at the pace of one.
+//
+// Kept (5): that a row has four samples is a fact of the slice lent; a row of fewer goes through `iir::three_bands`.
 ghost use Rattle.std.specs.Prelude.{◌≡◌, [], ◌++◌, ◌-◌, ◌≤◌, length, take, drop};
 ghost use Rattle.iir.specs.Runs.{bands_out, bands_end};
 ghost use Rattle.bank.specs.Behind.{first_four, behind, last_four, outs, ends, in_turn};
@@ -16,6 +18,7 @@ pub struct Last {
 
 // The bands after a row's first four samples: band 0 has taken all of them, band 1 two, and band 2
 // none. The fourth place is idle: its numbers are all +0 and stay so.
+#[tactic(auto, unfolding(crate::specs::Behind::first_four))]
 fn begin(b: Bands, x: Four) -> Lanes
     ensures { result ≡ first_four b x }
 {
@@ -29,6 +32,7 @@ fn begin(b: Bands, x: Four) -> Lanes
 }
 
 // The bands after band 0 takes x, and each of the others what the one before it gave two turns ago.
+#[tactic(auto, unfolding(crate::specs::Behind::behind))]
 fn stagger(l: Lanes, x: f32) -> Lanes
     ensures { result ≡ behind l x }
 {
@@ -45,15 +49,14 @@ fn stagger(l: Lanes, x: f32) -> Lanes
 }
 
 // The bands after they have taken what is left of a row, and its last four samples.
+#[tactic(auto, unfolding(crate::specs::Behind::last_four))]
 fn end(l: Lanes) -> Last
     ensures { result ≡ last_four l }
 {
-    let y1 = l.y1;
-    let y2 = l.y2;
-    let g0 = filtered(lane(1, l), y2.v0);
-    let g1 = filtered(g0, y1.v0);
-    let h0 = filtered(lane(2, l), y2.v1);
-    let h1 = filtered(h0, y1.v1);
+    let g0 = filtered(lane(1, l), l.y2.v0);
+    let g1 = filtered(g0, l.y1.v0);
+    let h0 = filtered(lane(2, l), l.y2.v1);
+    let h1 = filtered(h0, l.y1.v1);
     let h2 = filtered(h1, g0.y1);
     let h3 = filtered(h2, g1.y1);
     Last {
@@ -72,6 +75,8 @@ fn end(l: Lanes) -> Last
 }
 
 // Takes the row from its fifth sample on, and puts each sample that comes out four places back.
+//
+// Kept (3): each turn reads one place and writes another of the same row, and an iterator lends one place a turn.
 fn run_behind(b: Lanes, xs: &mut [f32]) -> Lanes
     requires { 4 ≤ length xs.old }
     ensures { (ends result [] ≡ ends b (drop 4 xs.old)) × (length xs.new ≡ length xs.old)
@@ -80,8 +85,7 @@ fn run_behind(b: Lanes, xs: &mut [f32]) -> Lanes
     let mut l = b;
     for i in 0..xs.len() - 4 {
         l = stagger(l, xs[i + 4]);
-        let y = l.y1;
-        xs[i] = y.v2;
+        xs[i] = l.y1.v2;
     }
     l
 }
@@ -92,10 +96,7 @@ fn put_last(y: Four, xs: &mut [f32])
     ensures { xs.new ≡ take (length xs.old - 4) xs.old ++ in_turn y }
 {
     let at = xs.len() - 4;
-    xs[at] = y.v0;
-    xs[at + 1] = y.v1;
-    xs[at + 2] = y.v2;
-    xs[at + 3] = y.v3;
+    xs[at..].copy_from_slice(&[y.v0, y.v1, y.v2, y.v3]);
 }
 
 // Filters a row of four samples or more in place by a line's bands, and gives the bands after it.

@@ -1,6 +1,7 @@
 -- What the private workers of the end of an open frame leave of the state.
-use Rattle.std.specs.Prelude.{cond, ℤ, List}
-use Rattle.samples.specs.declared.Answer.TheVariants.{Accepted, NotFinite}
+use Rattle.std.specs.Prelude.{cond, ℤ, List, Err}
+use Rattle.samples.specs.declared.Refusal.TheVariants.{NotFinite}
+use Rattle.samples.specs.Answers.{Accepted}
 use Rattle.audio_buffer.specs.declared.AudioEffectState.TheVariants.{TailComplete}
 use Rattle.audio_buffer.specs.Verdict.{verdict_of}
 use Rattle.iir.specs.declared.Filter.{Filter}
@@ -21,4 +22,4 @@ abbrev pub closed_by : UnitState → Stepped → Outcome
 closed_by u x =
     cond x.ok
     (outcome Accepted (idle u (record { lines = x.lines; passes = x.passes }) u.held.next x.filters) (verdict_of u.held.next))
-    (outcome NotFinite (unit_shut wall u) TailComplete)
+    (outcome (Err NotFinite) (unit_shut wall u) TailComplete)

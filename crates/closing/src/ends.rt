@@ -9,7 +9,7 @@ use audio_buffer::verdict;
 use delay::Cursors;
 use frame::Stepped;
 use iir::Filter;
-use samples::{Answer, Frames};
+use samples::{Frames, Refusal};
 use unit::{FILTERS, LINES, Outcome, PASS_RINGS, State, fresh_state, quiet};
 
 // The unit with no frame open, and other cursors, filters and another count.
@@ -22,9 +22,7 @@ pub(crate) fn idle(
 ) -> State
     ensures { result ≡ to_state (idle (of_state s) (record { lines = lines; passes = passes }) count.0 filters) }
 {
-    let rate = s.rate;
-    let frame = s.frame;
-    let mut t = fresh_state(rate, frame);
+    let mut t = fresh_state(s.rate, s.frame);
     t.lines = lines;
     t.passes = passes;
     t.count = count;
@@ -36,11 +34,7 @@ pub(crate) fn idle(
 pub(crate) fn shut(s: State) -> State
     ensures { result ≡ to_state (unit_shut wall (of_state s)) }
 {
-    let lines = s.lines;
-    let passes = s.passes;
-    let count = s.count;
-    let filters = s.before;
-    idle(s, lines, passes, count, filters)
+    idle(s, s.lines, s.passes, s.count, s.before)
 }
 
 // The outcome of a frame that nothing else refuses: 9 unless all of it is finite.
@@ -48,15 +42,11 @@ pub(crate) fn concluded(s: State, frame: Stepped) -> Outcome
     ensures { result ≡ closed_by (of_state s) frame }
 {
     if !frame.ok {
-        return quiet(Answer::NotFinite, shut(s));
+        return quiet(Err(Refusal::NotFinite), shut(s));
     }
-    let lines = frame.lines;
-    let passes = frame.passes;
-    let count = s.next;
-    let filters = frame.filters;
     Outcome {
-        answer: Answer::Accepted,
-        verdict: verdict(count),
-        state: idle(s, lines, passes, count, filters),
+        answer: Ok(()),
+        verdict: verdict(s.next),
+        state: idle(s, frame.lines, frame.passes, s.next, frame.filters),
     }
 }

@@ -13,7 +13,7 @@ ghost use Rattle.machine.specs.Jobs.{closed, abandoned};
 use crate::ends::{concluded, shut};
 use frame::close_frame;
 use judges::{judge_abandon, judge_close};
-use samples::{clear, is_accepted};
+use samples::clear;
 use unit::{Outcome, State, quiet, rings_of};
 
 // Ends a frame of which every job is done: puts its rows into the lines, writes the output, moves the
@@ -24,13 +24,10 @@ pub fn close(s: State, store: &mut [f32], work: &mut [f32], output: &mut [f32]) 
     ensures work_after { work.new ≡ (closed wall (lend s store.old work.old) output.old).memory.work }
     ensures output_after { output.new ≡ (closed wall (lend s store.old work.old) output.old).output }
 {
-    let answer = judge_close(s, store.len(), work.len(), output.len());
-    if !is_accepted(answer) {
-        return quiet(answer, s);
+    if let Err(refusal) = judge_close(s, store.len(), work.len(), output.len()) {
+        return quiet(Err(refusal), s);
     }
-    let f = s.frame;
-    let fs = s.filters;
-    let r = close_frame(f, rings_of(s), fs, store, work, output);
+    let r = close_frame(s.frame, rings_of(s), s.filters, store, work, output);
     concluded(s, r)
 }
 
@@ -39,10 +36,9 @@ pub fn abandon(s: State, work: &mut [f32]) -> Outcome
     ensures value { result ≡ outcome_of (abandoned wall (lend s [] work.old)) }
     ensures work_after { work.new ≡ (abandoned wall (lend s [] work.old)).memory.work }
 {
-    let answer = judge_abandon(s, work.len());
-    if !is_accepted(answer) {
-        return quiet(answer, s);
+    if let Err(refusal) = judge_abandon(s, work.len()) {
+        return quiet(Err(refusal), s);
     }
     clear(work);
-    quiet(answer, shut(s))
+    quiet(Ok(()), shut(s))
 }

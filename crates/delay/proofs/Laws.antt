@@ -1,5 +1,6 @@
 -- The laws by which the crates above speak of a ring: those of its views, what a judgement tells, what an accepted call gives, and the
 -- length that every put of four leaves. Assumes nothing.
+use Rattle.std.specs.Prelude.{Err}
 use borrow.Author.Tests.{lt-ltb, le-leb, leb-true, ltb-true}
 use mathlib.Core.Path.{◌≡◌, refl, ap, ◌∙◌}
 use mathlib.Core.List.{List}
@@ -7,8 +8,8 @@ use Prim.Native.Nat.{ℕ, ◌+◌, ◌≤◌, ◌<◌}
 use lib.Ieee.{Float}
 use lib.ListN.{length, take, replicate}
 use Rattle.samples.specs.Binary32.{+0}
-use Rattle.samples.specs.declared.Answer.{Answer}
-use Rattle.samples.specs.declared.Answer.TheVariants.{Accepted, BadState, BadLength, BadIndex}
+use Rattle.samples.specs.Answers.{Answer, Accepted}
+use Rattle.samples.specs.declared.Refusal.TheVariants.{BadState, BadLength, BadIndex}
 use Rattle.samples.proofs.Laws.{needed, split_and}
 use Rattle.delay.specs.declared.Cursors.{Cursors}
 use Rattle.delay.specs.declared.Four.{Four}
@@ -38,8 +39,8 @@ pub record Moves (l : ℕ) (c : Cursors) (n : ℕ) : Type 0 where
 ready_of : (l : ℕ) (c : Cursors) (rest : Answer) → judged_ring_then l c rest ≡ Accepted → Ready l c × (rest ≡ Accepted)
 unfolding length_ok cursors_ok
 ready_of l c rest e =
-    let p = needed _ BadLength _ refl e in
-    let q = needed _ BadState rest refl p.1 in
+    let p = needed _ (Err BadLength) _ refl e in
+    let q = needed _ (Err BadState) rest refl p.1 in
     let lengths = split_and _ _ p.0 in
     let cursors = split_and _ _ q.0 in (
       record {
@@ -66,7 +67,7 @@ pub count_ok_lem : (l : ℕ) (c : Cursors) (n : ℕ) → judged_count l c n ≡ 
 unfolding count_ok
 count_ok_lem l c n e =
     let p = ready_of l c _ e in
-    let q = split_and _ _ (needed _ BadIndex Accepted refl p.1).0 in
+    let q = split_and _ _ (needed _ (Err BadIndex) Accepted refl p.1).0 in
     record { ready = p.0; some = leb-true _ _ q.0; fits = leb-true _ _ q.1 }
 
 pub ok_count : (l : ℕ) (c : Cursors) (n : ℕ) → Moves l c n → judged_count l c n ≡ Accepted

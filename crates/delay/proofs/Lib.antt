@@ -1,6 +1,5 @@
 pub mod Views
 pub mod Straight
 pub mod Laws
-pub mod Ends
 pub mod RingLaw
 pub mod Examples

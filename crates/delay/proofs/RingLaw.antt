@@ -1,5 +1,6 @@
 -- The ring's laws. On the view, the ring as it lies from the cursor on, a turn takes n samples off the front and joins the n that are put to
 -- the end. Assumes nothing.
+use Rattle.std.specs.Prelude.{Err}
 use borrow.Author.Tests.{lt-ltb, le-ltb, leb-true}
 use native.Mathlib.Omega.{arith}
 use mathlib.Core.Path.{◌≡◌, refl, ap, ◌∙◌}
@@ -12,10 +13,9 @@ use lib.Ieee.{Float, nan}
 use lib.ListN.{length, get_or, take, replicate, length-append, length-replicate, get_or-replicate, get_or-append}
 use lib.Seq.{get_or-append-add, get_or-take}
 use Rattle.samples.specs.Binary32.{+0}
-use Rattle.samples.specs.Answers.{accept}
+use Rattle.samples.specs.Answers.{Answer, Accepted, accept}
 use Rattle.samples.specs.declared.Samples.{Samples}
-use Rattle.samples.specs.declared.Answer.{Answer}
-use Rattle.samples.specs.declared.Answer.TheVariants.{Accepted, BadLength}
+use Rattle.samples.specs.declared.Refusal.TheVariants.{BadLength}
 use Rattle.samples.proofs.Laws.{needed, split_and, accept_no, accept_either}
 use Rattle.samples.proofs.Turns.{lt_or_ge}
 use Rattle.delay.specs.declared.Cursors.{Cursors}
@@ -98,7 +98,7 @@ ring_sample ring ts h s each =
 pub cursor_below : CursorBelow
 unfolding length_ok
 cursor_below = record {
-  fresh = λ l e. let b = leb-true 1 l (split_and _ _ (needed _ BadLength Accepted refl e).0).0 in (b, b);
+  fresh = λ l e. let b = leb-true 1 l (split_and _ _ (needed _ (Err BadLength) Accepted refl e).0).0 in (b, b);
   reset = λ l c e. let r = judged_ok l c e in (r.reads, r.writes);
   get = λ l c n e. let m = count_ok_lem l c n e in rw e (wrap_less l (c.read.0 + n) (omega (arith, m.ready)), m.ready.writes);
   put = λ l c n e. let m = count_ok_lem l c n e in rw e (m.ready.reads, wrap_less l (c.write.0 + n) (omega (arith, m.ready)));

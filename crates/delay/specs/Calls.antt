@@ -1,9 +1,8 @@
 -- The six calls of a ring alone: what each answers and what it leaves of the memory lent.
-use Rattle.std.specs.Prelude.{Bool, ◌&&◌, List, ℕ, ◌+◌, leb, ltb, Float, length, replicate}
+use Rattle.std.specs.Prelude.{Bool, ◌&&◌, List, ℕ, ◌+◌, leb, ltb, Float, length, replicate, Err}
 use Rattle.samples.specs.Binary32.{+0}
-use Rattle.samples.specs.Answers.{need, accept}
-use Rattle.samples.specs.declared.Answer.{Answer}
-use Rattle.samples.specs.declared.Answer.TheVariants.{Accepted, BadState, BadLength, BadIndex}
+use Rattle.samples.specs.Answers.{Answer, Accepted, need, accept}
+use Rattle.samples.specs.declared.Refusal.TheVariants.{BadState, BadLength, BadIndex}
 use Rattle.delay.specs.declared.Cursors.{Cursors}
 use Rattle.delay.specs.declared.Four.{Four}
 use Rattle.delay.specs.declared.RingAnswer.{RingAnswer}
@@ -29,11 +28,11 @@ count_ok l n = leb 1 n && leb n l
 
 -- R3.13: 3 for the length
 abbrev pub judged_length : ℕ → Answer
-judged_length l = need (length_ok l) BadLength Accepted
+judged_length l = need (length_ok l) (Err BadLength) Accepted
 
 -- R2.6, R3.13, R3.14: the length, then the cursors, then the rest
 abbrev pub judged_ring_then : ℕ → Cursors → Answer → Answer
-judged_ring_then l c rest = need (length_ok l) BadLength (need (cursors_ok l c) BadState rest)
+judged_ring_then l c rest = need (length_ok l) (Err BadLength) (need (cursors_ok l c) (Err BadState) rest)
 
 -- a call with cursors
 abbrev pub judged_ring : ℕ → Cursors → Answer
@@ -41,7 +40,7 @@ judged_ring l c = judged_ring_then l c Accepted
 
 -- R3.15: a call with cursors that moves n samples
 abbrev pub judged_count : ℕ → Cursors → ℕ → Answer
-judged_count l c n = judged_ring_then l c (need (count_ok l n) BadIndex Accepted)
+judged_count l c n = judged_ring_then l c (need (count_ok l n) (Err BadIndex) Accepted)
 
 -- ---- cursors
 

@@ -3,7 +3,7 @@ use Rattle.std.specs.Prelude.{◌≡◌, cond, ℕ, ◌-◌, ◌≤◌, ◌<◌,
 use mathlib.Core.List.{List, [], ◌∷◌, ◌++◌, flatten, map}
 use Rattle.std.specs.Float.{nan}
 use Rattle.samples.specs.Binary32.{+0}
-use Rattle.samples.specs.declared.Answer.TheVariants.{Accepted}
+use Rattle.samples.specs.Answers.{Accepted}
 use Rattle.delay.specs.declared.Cursors.{Cursors}
 use Rattle.delay.specs.declared.Four.{Four}
 use Rattle.delay.specs.Ring.{list_of}

@@ -1,8 +1,12 @@
 // Positions in a ring: n samples on, one on, and four on.
+//
+// Kept (5): the position and the length of its ring stay two numbers. In a struct of both, `at` below `l` would go from the
+// contracts, and that its `l` is the length of the ring lent would come into all that read or write.
 ghost use Rattle.std.specs.Prelude.{◌≡◌, ◌+◌, ◌<◌, ◌≤◌};
 ghost use Rattle.delay.specs.Ring.{wrap, ahead};
 
 // The position n samples on from `at`, wrapped (R3.7).
+#[tactic(auto, unfolding(crate::specs::Ring::wrap))]
 pub(crate) fn advance(l: usize, at: usize, n: usize) -> usize
     requires { (at < l) × (n ≤ l) }
     ensures { (result ≡ wrap l (at + n)) × (result < l) }
@@ -25,18 +29,8 @@ pub(crate) fn four_on(l: usize, at: usize) -> usize
     ensures { result ≡ ahead l 4 at }
 {
     if 4 <= l {
-        return advance(l, at, 4);
+        advance(l, at, 4)
+    } else {
+        (at + 4) % l
     }
-    short_on(l, at)
-}
-
-// The same in any ring, one sample after the other.
-fn short_on(l: usize, at: usize) -> usize
-    requires { at < l }
-    ensures { result ≡ ahead l 4 at }
-{
-    let k1 = next(l, at);
-    let k2 = next(l, k1);
-    let k3 = next(l, k2);
-    next(l, k3)
 }

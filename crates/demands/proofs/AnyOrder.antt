@@ -1,16 +1,16 @@
 -- Demand 3: the memory of an open frame is a function of its marks, so that any order of the jobs, with any refused calls in between, ends in
 -- the memory at all marks, which is the whole frame's. Assumes nothing.
+use Rattle.std.specs.Prelude.{Err}
 use Prim.Native.Nat.{ℕ}
 use mathlib.Core.Path.{◌≡◌, refl, sym, ap, subst, ◌∙◌}
-use mathlib.Core.Bool.{Bool, true, false, ◌&&◌, cond}
+use mathlib.Core.Bool.{Bool, true, ◌&&◌, cond}
 use mathlib.Core.List.{List}
 use mathlib.Core.Logic.{◌⊎◌, inl, inr}
 use borrow.Author.Tests.{eq-eqb}
 use lib.Ieee.{Float}
 use lib.ListN.{length, replicate}
-use Rattle.samples.specs.declared.Answer.{Answer}
-use Rattle.samples.specs.declared.Answer.TheVariants.{Accepted, NotFinite}
-use Rattle.samples.specs.Answers.{accept, accepted}
+use Rattle.samples.specs.declared.Refusal.TheVariants.{NotFinite}
+use Rattle.samples.specs.Answers.{Answer, Accepted, accept, accepted}
 use Rattle.samples.specs.Binary32.{+0}
 use Rattle.audio_buffer.specs.Verdict.{verdict_of}
 use Rattle.unit.specs.UnitState.{UnitState}
@@ -116,7 +116,7 @@ module _ (m : Model) (w : Memory) (p : Play) (begins : Begins m w.unit) (e : ans
           };
           output = R.output.out;
         })
-        (refused NotFinite
+        (refused (Err NotFinite)
         (record {
           unit = record { settings = u.settings; cursors = u.cursors; count = u.count; filters = u.filters; held = quiet t };
           store = w.store;
@@ -135,13 +135,13 @@ module _ (m : Model) (w : Memory) (p : Play) (begins : Begins m w.unit) (e : ans
     whole_played : at_once m w p output ≡ played m w R (count_for u p) output
     whole_played = ap (λ (a : Answer). accept a (played m w R (count_for u p) output) (refused a w output)) whole_is
 
-    answered : ((at_once m w p output).answer ≡ Accepted) ⊎ ((at_once m w p output).answer ≡ NotFinite)
+    answered : ((at_once m w p output).answer ≡ Accepted) ⊎ ((at_once m w p output).answer ≡ Err NotFinite)
     unfolding played
     answered =
-        subst (λ (x : Ending). (x.answer ≡ Accepted) ⊎ (x.answer ≡ NotFinite)) (sym whole_played)
-        (cond_either (λ (x : Ending). (x.answer ≡ Accepted) ⊎ (x.answer ≡ NotFinite)) (frame_finite R) (λ q. inl refl) (λ q. inr refl))
+        subst (λ (x : Ending). (x.answer ≡ Accepted) ⊎ (x.answer ≡ Err NotFinite)) (sym whole_played)
+        (cond_either (λ (x : Ending). (x.answer ≡ Accepted) ⊎ (x.answer ≡ Err NotFinite)) (frame_finite R) (λ q. inl refl) (λ q. inr refl))
 
-    nothing_left : (at_once m w p output).answer ≡ NotFinite → at_once m w p output ≡ refused NotFinite (wiped w) output
+    nothing_left : (at_once m w p output).answer ≡ Err NotFinite → at_once m w p output ≡ refused (Err NotFinite) (wiped w) output
     unfolding ending
     nothing_left q = failure_gives_back m w (whole p output) q ∙ rw opens.free refl
 

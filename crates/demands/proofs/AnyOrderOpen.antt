@@ -6,9 +6,7 @@ use borrow.Author.Tests.{eqb-true, eq-eqb}
 use lib.Dec.{eqb}
 use lib.Ieee.{Float}
 use lib.ListN.{length, replicate, length-replicate}
-use Rattle.samples.specs.declared.Answer.{Answer}
-use Rattle.samples.specs.declared.Answer.TheVariants.{Accepted}
-use Rattle.samples.specs.Answers.{accept}
+use Rattle.samples.specs.Answers.{Answer, Accepted, accept}
 use Rattle.samples.specs.Binary32.{+0}
 use Rattle.samples.specs.Sizes.{rate_ok, frame_ok}
 use Rattle.samples.proofs.Laws.{split_and, join_and, frame_of}

@@ -10,8 +10,7 @@ use borrow.Author.Tests.{ltb-true, eqb-true}
 use lib.Dec.{eqb}
 use lib.Ieee.{Float}
 use lib.ListN.{set, take}
-use Rattle.samples.specs.declared.Answer.TheVariants.{Accepted}
-use Rattle.samples.specs.Answers.{accepted}
+use Rattle.samples.specs.Answers.{Accepted, accepted}
 use Rattle.samples.proofs.Laws.{split_and, is_accepted, accept_no}
 use Rattle.unit.specs.Layout.{Model, mix_mark, line_mark, output_mark}
 use Rattle.judges.specs.Marks.{all_read}

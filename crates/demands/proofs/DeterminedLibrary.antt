@@ -14,9 +14,7 @@ library_determined = record {
   samples = record {
     number = λ κs a x y s t p q. p ∙ sym q;
     index = λ κs a x y s t p q. p ∙ sym q;
-    is_accepted = λ κs a x y s t p q. p ∙ sym q;
     need = λ κs a x y s t p q. p ∙ sym q;
-    and = λ κs a x y s t p q. p ∙ sym q;
     rate_ok = λ κs a x y s t p q. p ∙ sym q;
     frame_ok = λ κs a x y s t p q. p ∙ sym q;
     is_finite = λ κs a x y s t p q. p ∙ sym q;
@@ -25,7 +23,6 @@ library_determined = record {
   };
   search = record {
     first_bad = λ κs a x y s t p q. p ∙ sym q;
-    is_nothing = λ κs a x y s t p q. p ∙ sym q;
     all_finite = λ κs a x y s t p q. p ∙ sym q;
   };
   delay = record {
@@ -84,7 +81,7 @@ library_determined = record {
   };
   audio_buffer = record {
     verdict = λ κs a x y s t p q. p ∙ sym q;
-    judge_then = λ κs a x y s t p q. p ∙ sym q;
+    judge_buffer = λ κs a x y s t p q. p ∙ sym q;
     judge_two = λ κs a x y s t p q. p ∙ sym q;
     write_interleaved = λ κs a x y s t p q. (p.0 ∙ sym q.0, p.1 ∙ sym q.1);
     read_interleaved = λ κs a x y s t p q. (p.0 ∙ sym q.0, p.1 ∙ sym q.1);
@@ -100,6 +97,7 @@ library_determined = record {
   wire = record {
     sample = λ κs a x y s t p q. p ∙ sym q;
     bits = λ κs a x y s t p q. p ∙ sym q;
+    unpack = λ G C lg lc copy clone d code e κs a x y s t p q. p ∙ sym q;
     decode = λ κs a x y s t p q. p ∙ sym q;
     encode = λ κs a x y s t p q. p ∙ sym q;
   };
@@ -125,6 +123,7 @@ library_determined = record {
     ring_place = λ κs a x y s t p q. p ∙ sym q;
     work_places = λ κs a x y s t p q. p ∙ sym q;
     is_store = λ κs a x y s t p q. p ∙ sym q;
+    is_total = λ κs a x y s t p q. p ∙ sym q;
   };
   judges = record {
     judge_fresh = λ κs a x y s t p q. p ∙ sym q;

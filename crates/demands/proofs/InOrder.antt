@@ -12,7 +12,7 @@ use mathlib.Core.Logic.{inl}
 use lib.Dec.{ltb}
 use lib.ListN.{length, set, take, replicate, length-take, get_or-replicate}
 use lib.Seq.{get_or-take}
-use Rattle.samples.specs.declared.Answer.TheVariants.{Accepted}
+use Rattle.samples.specs.Answers.{Accepted}
 use Rattle.samples.specs.Lists.{all_from}
 use Rattle.samples.proofs.Laws.{join_and}
 use Rattle.unit.specs.Layout.{Model, jobs_len, mix_mark, line_mark, output_mark}

@@ -1,4 +1,5 @@
 -- What an accepted call tells of the unit and of what it was lent. Assumes nothing.
+use Rattle.std.specs.Prelude.{Err}
 use Prim.Native.Nat.{ℕ, ◌*◌, ◌<◌}
 use mathlib.Core.Path.{◌≡◌, refl, sym}
 use mathlib.Core.Bool.{Bool, true, false, not, ◌&&◌}
@@ -8,9 +9,8 @@ use borrow.Author.Tests.{ltb-true, eqb-true}
 use lib.Dec.{eqb}
 use lib.Ieee.{Float}
 use lib.ListN.{length, get_or, length-replicate}
-use Rattle.samples.specs.declared.Answer.{Answer}
-use Rattle.samples.specs.declared.Answer.TheVariants.{Accepted, BadSize, BadLength}
-use Rattle.samples.specs.Answers.{or_else}
+use Rattle.samples.specs.declared.Refusal.TheVariants.{BadSize, BadLength}
+use Rattle.samples.specs.Answers.{Answer, Accepted, or_else}
 use Rattle.samples.specs.Binary32.{+0}
 use Rattle.samples.specs.Sizes.{rate_ok, frame_ok}
 use Rattle.samples.proofs.Laws.{split_and, needed, all_at}
@@ -48,8 +48,8 @@ not_is false e = refl
 pub fresh_long : (m : Model) (rate frame store : ℕ) → judged_fresh m rate frame store ≡ Accepted → store ≡ store_len m (lengths m (fresh_unit m rate frame))
 unfolding judged_fresh
 fresh_long m rate frame store e =
-    let p = needed (rate_ok rate && frame_ok frame) BadSize _ refl e in
-    eqb-true _ _ (needed _ BadLength Accepted refl p.1).0
+    let p = needed (rate_ok rate && frame_ok frame) (Err BadSize) _ refl e in
+    eqb-true _ _ (needed _ (Err BadLength) Accepted refl p.1).0
 
 -- the unit is in range, and the store holds all its rings
 pub record Lent (m : Model) (u : UnitState) (store : ℕ) : Type 0 where

@@ -13,9 +13,7 @@ use lib.Ieee.{Float}
 use lib.ListN.{length, get_or, take, drop, replicate, length-append, length-take, length-replicate, length-set, get_or-replicate, take-append-drop}
 use lib.Seq.{take_at}
 use Rattle.samples.specs.Lists.{row}
-use Rattle.samples.specs.declared.Answer.{Answer}
-use Rattle.samples.specs.declared.Answer.TheVariants.{Accepted}
-use Rattle.samples.specs.Answers.{accept, accepted}
+use Rattle.samples.specs.Answers.{Answer, Accepted, accept, accepted}
 use Rattle.samples.specs.Binary32.{+0}
 use Rattle.samples.proofs.Laws.{split_and, is_accepted, accept_no}
 use Rattle.bands.specs.declared.Times.{Times}

@@ -13,7 +13,7 @@ use lib.IntN.{pos}
 use lib.Ieee.{Float, of_bits}
 use lib.ListN.{length, get_or, drop, replicate, length-append, length-replicate, length-set}
 use lib.Seq.{drop-drop, get_or-drop}
-use Rattle.samples.specs.declared.Answer.TheVariants.{Accepted}
+use Rattle.samples.specs.Answers.{Accepted}
 use Rattle.samples.specs.Binary32.{plus_zero}
 use Rattle.samples.specs.Lists.{all_from}
 use Rattle.samples.specs.Sizes.{rate_ok, frame_ok}

@@ -1,4 +1,5 @@
 -- Demand 1's refusals, over all calls at once: what a refused and a failed one leave. Assumes nothing.
+use Rattle.std.specs.Prelude.{Option, Some, None, Ok, Err}
 use Prim.Native.Nat.{ℕ, ◌*◌, ◌/◌}
 use mathlib.Core.Path.{◌≡◌, refl, sym, ap, ◌∙◌}
 use mathlib.Core.Bool.{Bool, true, false}
@@ -9,12 +10,9 @@ use lib.Dec.{eqb}
 use lib.Ieee.{Float}
 use lib.ListN.{length, take, drop}
 use Rattle.samples.specs.Lists.{row}
-use Rattle.samples.specs.declared.Answer.{Answer}
-use Rattle.samples.specs.declared.Answer.TheVariants.{Accepted, BadState, BadSize, BadLength, BadIndex, OutOfTurn, BadTime, BadCoefficient, BadSample, NotFinite}
-use Rattle.samples.specs.Answers.{number_of, accepted, need, or_else}
+use Rattle.samples.specs.declared.Refusal.TheVariants.{BadState, BadLength, BadIndex, OutOfTurn, BadTime, BadCoefficient, NotFinite}
+use Rattle.samples.specs.Answers.{Answer, Accepted, number_of, accepted, need, or_else}
 use Rattle.samples.proofs.Laws.{accept_no, accept_either}
-use Rattle.search.specs.declared.Found.{Found}
-use Rattle.search.specs.declared.Found.TheVariants.{At, Nothing}
 use Rattle.search.specs.Search.{first_bad, all_finite}
 use Rattle.bands.specs.declared.Times.{Times}
 use Rattle.bands.specs.Times.{times_ok}
@@ -90,16 +88,8 @@ module _ (m : Model) (bad : Answer → Type 0) (leaves : Memory → Memory) (not
 
 -- is no acceptance
 pub refused_no : (a : Answer) → refusal a ≡ true → accepted a ≡ false
-refused_no Accepted e = absurd (true≢false (sym e))
-refused_no BadState e = refl
-refused_no BadSize e = refl
-refused_no BadLength e = refl
-refused_no BadIndex e = refl
-refused_no OutOfTurn e = refl
-refused_no BadTime e = refl
-refused_no BadCoefficient e = refl
-refused_no (BadSample i) e = refl
-refused_no NotFinite e = refl
+refused_no (Ok tt) e = absurd (true≢false (sym e))
+refused_no (Err bad) e = refl
 
 quiet_no : (due : Answer) (new old : Memory) → refusal due ≡ true → quietly due new old ≡ refused due old []
 quiet_no due new old e = ap (refused' due) (accept_no due new old (refused_no due e))
@@ -141,16 +131,16 @@ nine_needed false bad rest b r = b
 judged_not_nine : (m : Model) (u : UnitState) (lent line turn : Bool) → is_nine (judged m u lent line turn) ≡ false
 unfolding judged
 judged_not_nine m u lent line turn =
-    nine_needed (in_range m u) BadState _ refl (nine_needed lent BadLength _ refl (nine_needed line BadIndex _ refl (nine_needed turn OutOfTurn Accepted refl refl)))
+    nine_needed (in_range m u) (Err BadState) _ refl (nine_needed lent (Err BadLength) _ refl (nine_needed line (Err BadIndex) _ refl (nine_needed turn (Err OutOfTurn) Accepted refl refl)))
 
-found_not_nine : (f : Found) → is_nine (bad_input f) ≡ false
-found_not_nine (At i) = refl
-found_not_nine Nothing = refl
+found_not_nine : (f : Option ℕ) → is_nine (bad_input f) ≡ false
+found_not_nine (Some i) = refl
+found_not_nine None = refl
 
 given_not_nine : (t : Times) (coefficients input : List Float) → is_nine (judged_given t coefficients input) ≡ false
 unfolding judged_given
 given_not_nine t coefficients input =
-    nine_needed (times_ok t) BadTime _ refl (nine_needed (all_finite coefficients) BadCoefficient _ refl (found_not_nine (first_bad input)))
+    nine_needed (times_ok t) (Err BadTime) _ refl (nine_needed (all_finite coefficients) (Err BadCoefficient) _ refl (found_not_nine (first_bad input)))
 
 or_not_nine : (a b : Answer) → is_nine a ≡ false → is_nine b ≡ false → is_nine (or_else a b) ≡ false
 or_not_nine a b p q = accept_either (λ (x : Answer). is_nine x ≡ false) a {new = b} {old = a} (λ _. q) (λ _. p)
@@ -177,13 +167,13 @@ job_not_nine m w mix_job = judged_not_nine m w.unit _ _ _
 job_not_nine m w (line_job i) = judged_not_nine m w.unit _ _ _
 job_not_nine m w output_job = judged_not_nine m w.unit _ _ _
 
-no_nine : {A : Type 0} (due : Answer) → is_nine due ≡ false → due ≡ NotFinite → A
+no_nine : {A : Type 0} (due : Answer) → is_nine due ≡ false → due ≡ Err NotFinite → A
 no_nine due n e = absurd (true≢false (ap is_nine (sym e) ∙ n))
 
 whole_failed : (m : Model) (w : Memory) (p : Play) (output : List Float) → let x = at_once m w p output in
-    x.answer ≡ NotFinite → x ≡ refused x.answer (given_back m w) output
+    x.answer ≡ Err NotFinite → x ≡ refused x.answer (given_back m w) output
 whole_failed m w p output =
-    whole_either m w output (λ (x : Ending). x.answer ≡ NotFinite → x ≡ refused x.answer (given_back m w) output) p
+    whole_either m w output (λ (x : Ending). x.answer ≡ Err NotFinite → x ≡ refused x.answer (given_back m w) output) p
     (λ d q r. no_nine Accepted refl r)
     (λ d q r. rw (whole_lent m w.unit (length w.store) (length w.work) (length output) p d).free refl)
     (λ n r. no_nine _ (whole_not_nine m w.unit p (length w.store) (length w.work) (length output)) r)
@@ -194,12 +184,12 @@ failure_gives_back m w reset e = no_nine _ (judged_not_nine m w.unit _ _ _) e
 failure_gives_back m w (whole p output) e = rw e at (whole_failed m w p output e)
 failure_gives_back m w (frames t coefficients input output) e =
     rw e at
-    (frames_leave m (λ a. a ≡ NotFinite) (given_back m) (no_nine Accepted refl) (whole_failed m) w t coefficients input output
+    (frames_leave m (λ a. a ≡ Err NotFinite) (given_back m) (no_nine Accepted refl) (whole_failed m) w t coefficients input output
     (no_nine _ (frames_not_nine m w t coefficients input output)) e)
 failure_gives_back m w (start p) e = no_nine _ (open_not_nine m w.unit p _ _) e
 failure_gives_back m w (job j) e = no_nine _ (job_not_nine m w j) e
 failure_gives_back m w (close output) e =
-    close-either m w output (λ (x : Ending). x.answer ≡ NotFinite → x ≡ refused NotFinite (given_back m w) output)
+    close-either m w output (λ (x : Ending). x.answer ≡ Err NotFinite → x ≡ refused (Err NotFinite) (given_back m w) output)
     (λ d q r. no_nine Accepted refl r)
     (λ d q r. rw (close_lent m w.unit (length w.store) (length w.work) (length output) d).busy refl)
     (λ n r. no_nine _ (judged_not_nine m w.unit _ _ _) r) e

@@ -3,8 +3,7 @@ use Prim.Native.Nat.{◌+◌}
 use mathlib.Core.Path.{◌≡◌, refl, sym, ap, ◌∙◌}
 use mathlib.Core.Bool.{false}
 use lib.ListN.{length, replicate}
-use Rattle.samples.specs.declared.Answer.{Answer}
-use Rattle.samples.specs.Answers.{accept, accepted}
+use Rattle.samples.specs.Answers.{Answer, accept, accepted}
 use Rattle.samples.specs.Binary32.{+0}
 use Rattle.samples.proofs.Laws.{accept_no}
 use Rattle.delay.specs.declared.RingAnswer.{RingAnswer}

@@ -9,8 +9,7 @@ use lib.Ieee.{Float}
 use lib.ListN.{length, get_or, take, drop, take-append-drop}
 use lib.Seq.{drop-drop}
 use Rattle.samples.specs.Lists.{row}
-use Rattle.samples.specs.declared.Answer.TheVariants.{Accepted}
-use Rattle.samples.specs.Answers.{accepted}
+use Rattle.samples.specs.Answers.{Accepted, accepted}
 use Rattle.samples.proofs.Laws.{accept_either}
 use Rattle.samples.proofs.Rows.{next_row}
 use Rattle.bands.specs.declared.Times.{Times}

@@ -9,8 +9,7 @@ use native.Mathlib.Omega.{arith}
 use lib.Ieee.{Float}
 use lib.ListN.{length, drop, drop_of_length-le}
 use lib.Seq.{take_all}
-use Rattle.samples.specs.declared.Answer.TheVariants.{Accepted}
-use Rattle.samples.specs.Answers.{accepted}
+use Rattle.samples.specs.Answers.{Accepted, accepted}
 use Rattle.samples.proofs.Laws.{accept_either}
 use Rattle.search.specs.Search.{all_finite}
 use Rattle.bands.specs.declared.Times.{Times}

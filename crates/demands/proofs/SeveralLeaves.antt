@@ -1,4 +1,5 @@
 -- Several frames by how the first of them ends, and what they leave of the work memory. Assumes nothing.
+use Rattle.std.specs.Prelude.{Err}
 use Prim.Native.Nat.{ℕ, zero, suc, ◌/◌}
 use mathlib.Core.Path.{◌≡◌, refl, ◌∙◌}
 use mathlib.Core.Bool.{Bool, true, false, ◌||◌, cond}
@@ -8,9 +9,8 @@ use borrow.Author.Tests.{le-leb}
 use lib.Dec.{leb}
 use lib.Ieee.{Float}
 use lib.ListN.{length, take, drop, length-replicate}
-use Rattle.samples.specs.declared.Answer.{Answer}
-use Rattle.samples.specs.declared.Answer.TheVariants.{Accepted, NotFinite}
-use Rattle.samples.specs.Answers.{accept, accepted}
+use Rattle.samples.specs.declared.Refusal.TheVariants.{NotFinite}
+use Rattle.samples.specs.Answers.{Answer, Accepted, accept, accepted}
 use Rattle.samples.proofs.Laws.{accept_no, accept_either}
 use Rattle.bands.specs.declared.Times.{Times}
 use Rattle.unit.specs.Layout.{Model}
@@ -40,7 +40,7 @@ module _ (m : Model) (t : Times) (coefficients : List Float) (f n : ℕ) (w : Me
 
   pub singly_either : (P : Several → Type 0)
       → (due ≡ Accepted → P (done_then first (later first.memory)))
-      → (due ≡ Accepted → P (stopped_by (refused NotFinite (wiped w) (take f output)) (drop f output)))
+      → (due ≡ Accepted → P (stopped_by (refused (Err NotFinite) (wiped w) (take f output)) (drop f output)))
       → (accepted due ≡ false → P (stopped_by (refused due w (take f output)) (drop f output)))
       → P (singly m t coefficients f (suc n) w input output)
   unfolding singly

@@ -1,5 +1,6 @@
 -- Where several frames at once stop: the frame that is refused is judged by 8 and 9 alone, since no frame done takes back what 1 to 7 found.
 -- Assumes nothing.
+use Rattle.std.specs.Prelude.{Err}
 use Prim.Native.Nat.{ℕ, zero, suc, ◌*◌, ◌/◌, ◌≤◌}
 use mathlib.Core.Path.{◌≡◌, refl, sym, ap, ◌∙◌}
 use mathlib.Core.Bool.{true, false, ◌&&◌}
@@ -11,7 +12,7 @@ use lib.Ieee.{Float}
 use lib.IntN.{ℤ}
 use lib.ListN.{length, take, drop, length-drop, length-replicate}
 use lib.Seq.{take_all}
-use Rattle.samples.specs.declared.Answer.TheVariants.{NotFinite}
+use Rattle.samples.specs.declared.Refusal.TheVariants.{NotFinite}
 use Rattle.samples.specs.Answers.{accepted}
 use Rattle.samples.specs.Binary32.{+0}
 use Rattle.samples.specs.Sizes.{rate_ok, frame_ok}
@@ -115,7 +116,7 @@ module _ (m : Model) (four : length m.pass_lengths ≡ 4) (t : Times) (coefficie
       let s = singly_stops n v (drop f input) (drop f output) (playable_next m four w h p) (rest_long f n input i) (rest_long f n output o) r in
       record { early = omega (arith, s.early); answered = s.answered; verdict = s.verdict })
       (λ d r. record { early = omega arith; answered = rw (sym eight ∙ d) refl; verdict = refl })
-      (λ q r. record { early = omega arith; answered = eight ∙ sym (accept_no bad NotFinite bad (ap accepted (sym eight) ∙ q)); verdict = refl })
+      (λ q r. record { early = omega arith; answered = eight ∙ sym (accept_no bad (Err NotFinite) bad (ap accepted (sym eight) ∙ q)); verdict = refl })
 
 pub stopped_with : StoppedWith
 stopped_with m four w t coefficients input output e =

@@ -1,6 +1,7 @@
 -- Demand 3 (R8.22 to R8.26): a frame done as jobs, however ordered and with any refused calls in between, is the frame of one whole call.
-use Rattle.std.specs.Prelude.{ℕ, zero, suc, ◌+◌, ◌≡◌, true, List, [], ◌∷◌, ◌++◌, ◌⊎◌, Float, length}
-use Rattle.samples.specs.declared.Answer.TheVariants.{Accepted, NotFinite}
+use Rattle.std.specs.Prelude.{ℕ, zero, suc, ◌+◌, ◌≡◌, true, List, [], ◌∷◌, ◌++◌, ◌⊎◌, Float, length, Err}
+use Rattle.samples.specs.declared.Refusal.TheVariants.{NotFinite}
+use Rattle.samples.specs.Answers.{Accepted}
 use Rattle.unit.specs.UnitState.{UnitState}
 use Rattle.unit.specs.Layout.{Model, Sized}
 use Rattle.judges.specs.Marks.{all_done}
@@ -53,8 +54,8 @@ AnyOrder =
 -- it was before the open, the work memory +0 throughout
 pub record Exactly (m : Model) (w : Memory) (p : Play) (rs : List Request) (output : List Float) : Type 0 where
   pub same : closed m (worked m w p rs) output ≡ at_once m w p output
-  pub answered : ((at_once m w p output).answer ≡ Accepted) ⊎ ((at_once m w p output).answer ≡ NotFinite)
-  pub failed : (at_once m w p output).answer ≡ NotFinite → at_once m w p output ≡ refused NotFinite (wiped w) output
+  pub answered : ((at_once m w p output).answer ≡ Accepted) ⊎ ((at_once m w p output).answer ≡ Err NotFinite)
+  pub failed : (at_once m w p output).answer ≡ Err NotFinite → at_once m w p output ≡ refused (Err NotFinite) (wiped w) output
 
 abbrev pub CloseRefusesExactly : Type 0
 CloseRefusesExactly =

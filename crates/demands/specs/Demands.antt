@@ -1,6 +1,6 @@
 -- Demand 1: what is kept is finite (R8.7 to R8.10).
 use Rattle.std.specs.Prelude.{ℕ, ◌≡◌, true, cond, List, length}
-use Rattle.samples.specs.declared.Answer.TheVariants.{Accepted}
+use Rattle.samples.specs.Answers.{Accepted}
 use Rattle.search.specs.Search.{all_finite}
 use Rattle.iir.specs.declared.Filter.{Filter}
 use Rattle.unit.specs.UnitState.{UnitState}

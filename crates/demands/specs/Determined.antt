@@ -4,8 +4,7 @@ use Rattle.std.specs.Prelude.{◌≡◌, false, List, ℕ}
 use contract.Lifetimes
 use borrow.Fn.Kinds as Kinds'
 use denote.Triple.Clauses
-use Rattle.samples.specs.declared.Answer.{Answer}
-use Rattle.samples.specs.Answers.{accepted}
+use Rattle.samples.specs.Answers.{Answer, accepted}
 
 module _ (n : ℕ) (ps : List (Kinds'.ParamKind n)) (r : Kinds'.ResultKind n) (post : Kinds'.Out n ps r) where
   abbrev Result : Lifetimes.Lfts n → Type 0

@@ -1,16 +1,17 @@
 -- The contract of every public function of the library determines its result and each lent float at exit (R8.28): a record a crate, a field
 -- a function, over its real contract.
+use denote.RattleType.{RattleType}
+use denote.Param.Laws.{Laws, IsCopy}
+use mir.Syntax.{Dict}
+use Rattle.std.specs.declared.clone.Clone as clone-trait
+use Rattle.wire.specs.declared.Code as code-trait
 use Rattle.demands.specs.Determined.{Determined, DeterminedExit, DeterminedWith1, DeterminedWith3, OneValue}
 use Rattle.samples.proofs.number.Kinds as samples-number-kinds
 use Rattle.samples.proofs.number.Reads as samples-number-reads
 use Rattle.samples.proofs.index.Kinds as samples-index-kinds
 use Rattle.samples.proofs.index.Reads as samples-index-reads
-use Rattle.samples.proofs.is_accepted.Kinds as samples-is-accepted-kinds
-use Rattle.samples.proofs.is_accepted.Reads as samples-is-accepted-reads
 use Rattle.samples.proofs.need.Kinds as samples-need-kinds
 use Rattle.samples.proofs.need.Reads as samples-need-reads
-use Rattle.samples.proofs.and.Kinds as samples-and-kinds
-use Rattle.samples.proofs.and.Reads as samples-and-reads
 use Rattle.samples.proofs.rate_ok.Kinds as samples-rate-ok-kinds
 use Rattle.samples.proofs.rate_ok.Reads as samples-rate-ok-reads
 use Rattle.samples.proofs.frame_ok.Kinds as samples-frame-ok-kinds
@@ -23,8 +24,6 @@ use Rattle.samples.proofs.clear.Kinds as samples-clear-kinds
 use Rattle.samples.proofs.clear.Reads as samples-clear-reads
 use Rattle.search.proofs.first_bad.Kinds as search-first-bad-kinds
 use Rattle.search.proofs.first_bad.Reads as search-first-bad-reads
-use Rattle.search.proofs.is_nothing.Kinds as search-is-nothing-kinds
-use Rattle.search.proofs.is_nothing.Reads as search-is-nothing-reads
 use Rattle.search.proofs.all_finite.Kinds as search-all-finite-kinds
 use Rattle.search.proofs.all_finite.Reads as search-all-finite-reads
 use Rattle.delay.proofs.fresh.Kinds as delay-fresh-kinds
@@ -101,8 +100,8 @@ use Rattle.primes.proofs.delay_values.Kinds as primes-delay-values-kinds
 use Rattle.primes.proofs.delay_values.Reads as primes-delay-values-reads
 use Rattle.audio_buffer.proofs.verdict.Kinds as audio-buffer-verdict-kinds
 use Rattle.audio_buffer.proofs.verdict.Reads as audio-buffer-verdict-reads
-use Rattle.audio_buffer.proofs.judge_then.Kinds as audio-buffer-judge-then-kinds
-use Rattle.audio_buffer.proofs.judge_then.Reads as audio-buffer-judge-then-reads
+use Rattle.audio_buffer.proofs.judge_buffer.Kinds as audio-buffer-judge-buffer-kinds
+use Rattle.audio_buffer.proofs.judge_buffer.Reads as audio-buffer-judge-buffer-reads
 use Rattle.audio_buffer.proofs.judge_two.Kinds as audio-buffer-judge-two-kinds
 use Rattle.audio_buffer.proofs.judge_two.Reads as audio-buffer-judge-two-reads
 use Rattle.audio_buffer.proofs.write_interleaved.Kinds as audio-buffer-write-interleaved-kinds
@@ -125,6 +124,8 @@ use Rattle.wire.proofs.sample.Kinds as wire-sample-kinds
 use Rattle.wire.proofs.sample.Reads as wire-sample-reads
 use Rattle.wire.proofs.bits.Kinds as wire-bits-kinds
 use Rattle.wire.proofs.bits.Reads as wire-bits-reads
+use Rattle.wire.proofs.unpack.Kinds as wire-unpack-kinds
+use Rattle.wire.proofs.unpack.Reads as wire-unpack-reads
 use Rattle.wire.proofs.decode.Kinds as wire-decode-kinds
 use Rattle.wire.proofs.decode.Reads as wire-decode-reads
 use Rattle.wire.proofs.encode.Kinds as wire-encode-kinds
@@ -167,6 +168,8 @@ use Rattle.unit.proofs.work_places.Kinds as unit-work-places-kinds
 use Rattle.unit.proofs.work_places.Reads as unit-work-places-reads
 use Rattle.unit.proofs.is_store.Kinds as unit-is-store-kinds
 use Rattle.unit.proofs.is_store.Reads as unit-is-store-reads
+use Rattle.unit.proofs.is_total.Kinds as unit-is-total-kinds
+use Rattle.unit.proofs.is_total.Reads as unit-is-total-reads
 use Rattle.judges.proofs.judge_fresh.Kinds as judges-judge-fresh-kinds
 use Rattle.judges.proofs.judge_fresh.Reads as judges-judge-fresh-reads
 use Rattle.judges.proofs.judge_reset.Kinds as judges-judge-reset-kinds
@@ -257,9 +260,7 @@ use Rattle.closing.proofs.abandon.Reads as closing-abandon-reads
 pub record SamplesDetermined : Type 0 where
   pub number : Determined 0 samples-number-kinds.ps samples-number-kinds.r samples-number-reads.Post
   pub index : Determined 0 samples-index-kinds.ps samples-index-kinds.r samples-index-reads.Post
-  pub is_accepted : Determined 0 samples-is-accepted-kinds.ps samples-is-accepted-kinds.r samples-is-accepted-reads.Post
   pub need : Determined 0 samples-need-kinds.ps samples-need-kinds.r samples-need-reads.Post
-  pub and : Determined 0 samples-and-kinds.ps samples-and-kinds.r samples-and-reads.Post
   pub rate_ok : Determined 0 samples-rate-ok-kinds.ps samples-rate-ok-kinds.r samples-rate-ok-reads.Post
   pub frame_ok : Determined 0 samples-frame-ok-kinds.ps samples-frame-ok-kinds.r samples-frame-ok-reads.Post
   pub is_finite : Determined 0 samples-is-finite-kinds.ps samples-is-finite-kinds.r samples-is-finite-reads.Post
@@ -268,7 +269,6 @@ pub record SamplesDetermined : Type 0 where
 
 pub record SearchDetermined : Type 0 where
   pub first_bad : Determined 1 search-first-bad-kinds.ps search-first-bad-kinds.r search-first-bad-reads.Post
-  pub is_nothing : Determined 0 search-is-nothing-kinds.ps search-is-nothing-kinds.r search-is-nothing-reads.Post
   pub all_finite : Determined 1 search-all-finite-kinds.ps search-all-finite-kinds.r search-all-finite-reads.Post
 
 pub record DelayDetermined : Type 0 where
@@ -327,7 +327,7 @@ pub record PrimesDetermined : Type 0 where
 
 pub record AudioBufferDetermined : Type 0 where
   pub verdict : Determined 0 audio-buffer-verdict-kinds.ps audio-buffer-verdict-kinds.r audio-buffer-verdict-reads.Post
-  pub judge_then : Determined 0 audio-buffer-judge-then-kinds.ps audio-buffer-judge-then-kinds.r audio-buffer-judge-then-reads.Post
+  pub judge_buffer : Determined 0 audio-buffer-judge-buffer-kinds.ps audio-buffer-judge-buffer-kinds.r audio-buffer-judge-buffer-reads.Post
   pub judge_two : Determined 0 audio-buffer-judge-two-kinds.ps audio-buffer-judge-two-kinds.r audio-buffer-judge-two-reads.Post
   pub write_interleaved : DeterminedWith1 2 audio-buffer-write-interleaved-kinds.ps audio-buffer-write-interleaved-kinds.r audio-buffer-write-interleaved-reads.Post (λ κs s. s.1.1.1.0.now)
   pub read_interleaved : DeterminedWith1 2 audio-buffer-read-interleaved-kinds.ps audio-buffer-read-interleaved-kinds.r audio-buffer-read-interleaved-reads.Post (λ κs s. s.1.1.1.0.now)
@@ -340,9 +340,12 @@ pub record LevelsDetermined : Type 0 where
   pub mix : DeterminedWith1 2 levels-mix-kinds.ps levels-mix-kinds.r levels-mix-reads.Post (λ κs s. s.1.1.1.0.now)
   pub downmix : DeterminedWith1 2 levels-downmix-kinds.ps levels-downmix-kinds.r levels-downmix-reads.Post (λ κs s. s.1.1.1.0.now)
 
-pub record WireDetermined : Type 0 where
+-- `unpack` of any group of bytes and any code of it
+pub record WireDetermined : Type 2 where
   pub sample : Determined 0 wire-sample-kinds.ps wire-sample-kinds.r wire-sample-reads.Post
   pub bits : Determined 0 wire-bits-kinds.ps wire-bits-kinds.r wire-bits-reads.Post
+  pub unpack : (G C : RattleType) (lg : Laws G) (lc : Laws C) (copy : IsCopy G) (clone : clone-trait.Ghosts G.Denot) (d : Dict) (code : code-trait.Ghosts C.Denot G.Denot) (e : Dict)
+      → DeterminedExit 4 (wire-unpack-kinds.ps G C lg lc copy) (wire-unpack-kinds.r G C lg lc copy) (wire-unpack-reads.Post G C lg lc copy clone d code e) (λ κs s. s.1.0.now)
   pub decode : DeterminedExit 2 wire-decode-kinds.ps wire-decode-kinds.r wire-decode-reads.Post (λ κs s. s.1.0.now)
   pub encode : DeterminedExit 2 wire-encode-kinds.ps wire-encode-kinds.r wire-encode-reads.Post (λ κs s. s.1.0.now)
 
@@ -368,6 +371,7 @@ pub record UnitDetermined : Type 0 where
   pub ring_place : Determined 0 unit-ring-place-kinds.ps unit-ring-place-kinds.r unit-ring-place-reads.Post
   pub work_places : Determined 0 unit-work-places-kinds.ps unit-work-places-kinds.r unit-work-places-reads.Post
   pub is_store : Determined 0 unit-is-store-kinds.ps unit-is-store-kinds.r unit-is-store-reads.Post
+  pub is_total : Determined 1 unit-is-total-kinds.ps unit-is-total-kinds.r unit-is-total-reads.Post
 
 pub record JudgesDetermined : Type 0 where
   pub judge_fresh : Determined 0 judges-judge-fresh-kinds.ps judges-judge-fresh-kinds.r judges-judge-fresh-reads.Post
@@ -430,7 +434,7 @@ pub record ClosingDetermined : Type 0 where
   pub close : DeterminedWith3 3 closing-close-kinds.ps closing-close-kinds.r closing-close-reads.Post (λ κs s. s.1.0.now) (λ κs s. s.1.1.0.now) (λ κs s. s.1.1.1.0.now)
   pub abandon : DeterminedWith1 1 closing-abandon-kinds.ps closing-abandon-kinds.r closing-abandon-reads.Post (λ κs s. s.1.0.now)
 
-pub record LibraryDetermined : Type 0 where
+pub record LibraryDetermined : Type 2 where
   pub samples : SamplesDetermined
   pub search : SearchDetermined
   pub delay : DelayDetermined

@@ -1,6 +1,7 @@
 -- The demands from an accepted fresh on, after any calls with any arguments (`Runs` of the machine), with no premise left over.
-use Rattle.std.specs.Prelude.{ℕ, ◌<◌, ◌≡◌, true, false, List, [], ◌∷◌, ◌++◌, ◌⊎◌, ltb, Float, length, get_or, take, replicate}
-use Rattle.samples.specs.declared.Answer.TheVariants.{Accepted, NotFinite}
+use Rattle.std.specs.Prelude.{ℕ, ◌<◌, ◌≡◌, true, false, List, [], ◌∷◌, ◌++◌, ◌⊎◌, ltb, Float, length, get_or, take, replicate, Err}
+use Rattle.samples.specs.declared.Refusal.TheVariants.{NotFinite}
+use Rattle.samples.specs.Answers.{Accepted}
 use Rattle.samples.specs.Binary32.{+0}
 use Rattle.samples.specs.Lists.{all_from}
 use Rattle.unit.specs.UnitState.{UnitState}
@@ -77,7 +78,7 @@ after_open m w p s k = request m w (ask (start p) s k)
 -- bit. The logic has one NaN: of a state whose filters hold one, up to which NaN it is
 pub record GivesUp (m : Model) (w v : Memory) : Type 0 where
   pub abandoned : answer m v abandon ≡ Accepted → (after m v abandon).unit ≡ w.unit
-  pub failed : (output : List Float) → answer m v (close output) ≡ NotFinite → (after m v (close output)).unit ≡ w.unit
+  pub failed : (output : List Float) → answer m v (close output) ≡ Err NotFinite → (after m v (close output)).unit ≡ w.unit
 
 -- and the unit's own store is still what it was
 abbrev pub FrameGivenUp : Type 0

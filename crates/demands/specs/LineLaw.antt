@@ -1,8 +1,7 @@
 -- Demand 2: what a line hands out (R8.18 to R8.21).
 use Rattle.std.specs.Prelude.{ℕ, zero, suc, ◌<◌, ◌≡◌, true, cond, List, [], ◌∷◌, ◌++◌, ◌⊎◌, eqb, Float, length, get_or, take, drop, replicate}
 use Rattle.samples.specs.Lists.{row}
-use Rattle.samples.specs.declared.Answer.TheVariants.{Accepted}
-use Rattle.samples.specs.Answers.{accept}
+use Rattle.samples.specs.Answers.{Accepted, accept}
 use Rattle.samples.specs.Binary32.{+0}
 use Rattle.bands.specs.declared.Times.{Times}
 use Rattle.delay.specs.Calls.{both}

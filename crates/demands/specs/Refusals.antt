@@ -1,7 +1,8 @@
 -- Demand 1: what a refusal leaves (R8.4 to R8.6). The calls' contracts cite the machine, so what holds of its endings holds of what the calls
 -- give and leave.
-use Rattle.std.specs.Prelude.{ℕ, ◌*◌, ◌≡◌, true, cond, List, [], ◌++◌, Float, take, drop}
-use Rattle.samples.specs.declared.Answer.TheVariants.{Accepted, NotFinite}
+use Rattle.std.specs.Prelude.{ℕ, ◌*◌, ◌≡◌, true, cond, List, [], ◌++◌, Float, take, drop, Err}
+use Rattle.samples.specs.declared.Refusal.TheVariants.{NotFinite}
+use Rattle.samples.specs.Answers.{Accepted}
 use Rattle.unit.specs.Layout.{Model}
 use Rattle.unit.specs.Fresh.{least_unit}
 use Rattle.machine.specs.Ending.{Memory, refused}
@@ -54,7 +55,7 @@ given_back m w = cond w.unit.held.busy (memory_shut m w) (wiped w)
 -- R8.5, R8.6: answered 9
 abbrev pub FailureGivesBack : Type 0
 FailureGivesBack =
-    (m : Model) (w : Memory) (c : Call) → answer m w c ≡ NotFinite → ending m w c ≡ refused NotFinite (given_back m (so_far m w c)) (output_so_far m w c)
+    (m : Model) (w : Memory) (c : Call) → answer m w c ≡ Err NotFinite → ending m w c ≡ refused (Err NotFinite) (given_back m (so_far m w c)) (output_so_far m w c)
 
 -- R8.5, R8.6: an abandon that is accepted
 abbrev pub AbandonGivesBack : Type 0

@@ -1,7 +1,7 @@
 -- Several frames at once are the same applies made singly (R10).
-use Rattle.std.specs.Prelude.{ℕ, zero, suc, ◌*◌, ◌/◌, ◌<◌, ◌≤◌, ◌≡◌, true, false, ◌||◌, cond, List, [], ◌∷◌, ◌++◌, leb, eqb, Float, length, get_or, take, drop}
-use Rattle.samples.specs.declared.Answer.TheVariants.{Accepted, NotFinite}
-use Rattle.samples.specs.Answers.{number_of, accepted, or_else}
+use Rattle.std.specs.Prelude.{ℕ, zero, suc, ◌*◌, ◌/◌, ◌<◌, ◌≤◌, ◌≡◌, true, false, ◌||◌, cond, List, [], ◌∷◌, ◌++◌, leb, eqb, Float, length, get_or, take, drop, Err}
+use Rattle.samples.specs.declared.Refusal.TheVariants.{NotFinite}
+use Rattle.samples.specs.Answers.{Accepted, number_of, accepted, or_else}
 use Rattle.samples.specs.Lists.{row}
 use Rattle.search.specs.Search.{first_bad}
 use Rattle.audio_buffer.specs.declared.AudioEffectState.TheVariants.{TailComplete}
@@ -115,7 +115,7 @@ AllHandedOut =
 -- R10.5, R10.9: x, refused among n frames of f samples. Frame number `done` decides: 8 with the place in that frame, and 9 where it is finite
 pub record StoppedIn (f n : ℕ) (input : List Float) (x : Several) : Type 0 where
   pub early : x.done < n
-  pub answered : x.ending.answer ≡ or_else (bad_input (first_bad (row f x.done input))) NotFinite
+  pub answered : x.ending.answer ≡ or_else (bad_input (first_bad (row f x.done input))) (Err NotFinite)
   pub verdict : x.ending.verdict ≡ TailComplete
 
 -- with none of 1 to 7 due, of a model with two allpass stages, each of two rings

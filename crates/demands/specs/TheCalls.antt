@@ -3,7 +3,7 @@ use Rattle.std.specs.Prelude.{◌≡◌, true, []}
 use contract.Lifetimes
 use borrow.Fn.Kinds as Kinds'
 use denote.Triple.Clauses
-use Rattle.samples.specs.declared.Answer.TheVariants.{Accepted}
+use Rattle.samples.specs.Answers.{Accepted}
 use Rattle.unit.specs.Layout.{wall}
 use Rattle.unit.specs.Fresh.{least_unit}
 use Rattle.machine.specs.Ending.{lend, refused}

@@ -1,9 +1,9 @@
 -- A call's own contract, and what the theorems say of it: that it ends as the machine's call, and what a refusal leaves.
-use Rattle.std.specs.Prelude.{ℕ, ◌≡◌, true, List, Float}
+use Rattle.std.specs.Prelude.{ℕ, ◌≡◌, true, List, Float, Err}
 use contract.Lifetimes
 use borrow.Fn.Kinds as Kinds'
 use denote.Triple.Clauses
-use Rattle.samples.specs.declared.Answer.TheVariants.{NotFinite}
+use Rattle.samples.specs.declared.Refusal.TheVariants.{NotFinite}
 use Rattle.unit.specs.declared.Outcome.{Outcome}
 use Rattle.unit.specs.Layout.{wall}
 use Rattle.machine.specs.Ending.{Memory, lend, Ending, refused}
@@ -47,4 +47,4 @@ RefusedLeaves = Always (λ w c e. refusal e.answer ≡ true → e ≡ refused e.
 -- answered 9, the state is that from before the frame opened, store and output hold what they held, and the work memory is all +0; of several
 -- frames, of what those left that were done
 abbrev pub FailedGivesBack : Function → Type 0
-FailedGivesBack = Always (λ w c e. e.answer ≡ NotFinite → e ≡ refused NotFinite (given_back wall (so_far wall w c)) (output_so_far wall w c))
+FailedGivesBack = Always (λ w c e. e.answer ≡ Err NotFinite → e ≡ refused (Err NotFinite) (given_back wall (so_far wall w c)) (output_so_far wall w c))

@@ -2,25 +2,12 @@
 // first echoes of a click fall (R9.27).
 #![tactic(auto)]
 
-use bands::Times;
+use shell::{FRAME, STORE, WORK};
 use std::io;
-use unit::{
-    ALLPASS_FLOATS, BANDS, COEFFICIENTS, DELAYS_AND_RINGS, FILTERS, LINES, PER_FILTER, ROWS, State,
-    TONE,
-};
+use unit::{DELAYS_AND_RINGS, LINES};
 
-// The samples a second, and those of the click's frames.
+// The samples a second.
 const RATE: u32 = 48000;
-
-const FRAME: usize = 128;
-
-// The memory of a unit of such frames.
-const STORE: usize = DELAYS_AND_RINGS + LINES * FRAME;
-
-const WORK: usize = ROWS * FRAME + ALLPASS_FLOATS;
-
-// Where b0 stands among the coefficients of a filter.
-const B0: usize = 2;
 
 // Writes what a fresh unit answers for frames of that many samples, on a store of their length.
 fn size(rt: &impl Print, frame: usize, store: &mut [f32]) -> io::Result<()> {
@@ -29,55 +16,39 @@ fn size(rt: &impl Print, frame: usize, store: &mut [f32]) -> io::Result<()> {
     println!(rt; "a frame of {frame} is answered {number}")
 }
 
-// The program's filters: band 0 of each line halves, every other filter lets by.
-fn coefficients() -> [f32; COEFFICIENTS] {
-    let mut cs = [0.0f32; COEFFICIENTS];
-    for i in 0..FILTERS {
-        cs[PER_FILTER * i + B0] = if i < TONE && i % BANDS == 0 { 0.5 } else { 1.0 };
-    }
-    cs
-}
-
-// Writes a sample by its bits.
-fn say(rt: &impl Print, at: u64, x: f32) -> io::Result<()> {
-    let bits = wire::bits(x);
-    println!(rt; "sample {at} is {bits:08x}")
-}
-
-// Writes the samples of a frame that are not exactly +0. The frame's first is sample `at`.
+// Writes the samples of a frame that are not exactly +0, by their bits. The frame's first is sample `at`.
 fn show(rt: &impl Print, row: &[f32; FRAME], at: u32) -> io::Result<()> {
-    for i in 0..FRAME {
-        let x = row[i];
-        if !samples::is_plus_zero(x) {
-            say(rt, at as u64 + i as u64, x)?;
+    for (i, x) in row.iter().enumerate() {
+        if !samples::is_plus_zero(*x) {
+            let sample = u64::from(at) + i as u64;
+            let bits = wire::bits(*x);
+            println!(rt; "sample {sample} is {bits:08x}")?;
         }
     }
     Ok(())
 }
 
-// The frame of the click.
-fn first(s: State, store: &mut [f32], work: &mut [f32], output: &mut [f32]) -> State {
-    let t = Times {
-        low: 0.1,
-        mid: 0.1,
-        high: 0.1,
-    };
+// A click, and three frames after it.
+fn click(rt: &impl Print, store: &mut [f32; STORE], work: &mut [f32; WORK]) -> io::Result<()> {
+    let fresh = shell::start(store);
+    let cs = shell::coefficients();
     let mut click = [0.0f32; FRAME];
     click[0] = 1.0;
-    let a = reverb::apply(s, t, &coefficients(), &click, store, work, output);
-    a.state
-}
-
-// A click, and three frames after it.
-fn click(rt: &impl Print, store: &mut [f32], work: &mut [f32]) -> io::Result<()> {
-    let fresh = reverb::fresh(RATE, FRAME, store);
-    let mut output = [0.0f32; FRAME];
-    let mut state = first(fresh.state, store, work, &mut output);
-    show(rt, &output, 0)?;
+    let mut row = [0.0f32; FRAME];
+    let first = reverb::apply(
+        fresh.state,
+        shell::times(),
+        &cs,
+        &click,
+        store,
+        work,
+        &mut row,
+    );
+    show(rt, &row, 0)?;
+    let mut state = first.state;
     for k in 1..4u32 {
-        let a = reverb::tail(state, store, work, &mut output);
-        state = a.state;
-        show(rt, &output, FRAME as u32 * k)?;
+        state = reverb::tail(state, store, work, &mut row).state;
+        show(rt, &row, FRAME as u32 * k)?;
     }
     Ok(())
 }

@@ -3,8 +3,9 @@ use mathlib.Core.Path.{◌≡◌, refl, sym, ap, ◌∙◌}
 use mathlib.Core.List.{List, ◌∷◌, ◌++◌}
 use Prim.Native.Nat.{ℕ, suc, ◌+◌, ◌-◌, ◌<◌, ◌≤◌}
 use native.Mathlib.Omega.{arith}
+use native.Mathlib.Nat.{add-zero}
 use lib.ListN.{length, get_or, take, drop, set, length-set, take-append-drop}
-use lib.Seq.{drop-drop, drop-set-lt}
+use lib.Seq.{drop-drop, drop-set-lt, get_or-drop}
 use Rattle.samples.proofs.Turns.{more, next, stored}
 use Rattle.delay.specs.declared.Cursors.{Cursors}
 use Rattle.delay.specs.Calls.{both}
@@ -19,6 +20,10 @@ Moving n f ls cs X i ds =
     × (take i ds ++ all_moved f (take (n - i) (drop i ls)) (drop i cs) ≡ X)
 
 module _ (n f : ℕ) (ls : List ℕ) (cs X : List Cursors) (i : ℕ) (ds : List Cursors) (v : Moving n f ls cs X i ds) where
+  -- the cursors of ring i are as they were
+  pub here : get_or ds i (both 0) ≡ get_or cs i (both 0)
+  here = rw add-zero at (sym (get_or-drop i ds 0 (both 0)) ∙ ap (λ (l : List Cursors). get_or l 0 (both 0)) v.3 ∙ get_or-drop i cs 0 (both 0))
+
   -- the rings left are ring i and those after it
   pub ring_here : i < n → Within (suc (n - (i + 1))) i ls cs
   ring_here h = rw (more n i h) at v.2

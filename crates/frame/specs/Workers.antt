@@ -5,8 +5,6 @@ use Rattle.delay.specs.declared.Cursors.{Cursors}
 use Rattle.delay.specs.Calls.{longest_ring, both}
 use Rattle.unit.specs.declared.Rings.{Rings}
 use Rattle.unit.specs.Layout.{Model, wall, total, places_of}
-use Rattle.frame.specs.declared.Stepped.{Stepped}
-use Rattle.frame.specs.declared.whole.Judged.{Judged}
 
 -- the rings of n lines, the first at a, lie one after the other within `len` floats; each holds a frame of f, and its cursors are within it
 abbrev pub RingsFit : ℕ → ℕ → ℕ → ℕ → List ℕ → List Cursors → ℕ → Type 0
@@ -67,7 +65,3 @@ pub record SettleFits (n f : ℕ) (r : Rings) (store work output : ℕ) : Type 0
   pub rows : (places_of n f).rings ≤ work
   pub rings : lines_len n r + work ≡ store + (places_of n f).rings
   pub out : output ≡ f
-
--- what a frame came to but for the cursors: whether all of it is finite, and its filters
-abbrev pub judged_of : Stepped → Judged
-judged_of x = record { ok = x.ok; filters = x.filters }

@@ -2,25 +2,29 @@
 // long their rings are.
 //
 // Its contracts cite `specs/`: what the steps ask of the memory lent, and what a frame leaves of it.
+//
+// Kept (5): store, work memory and output go side by side, as C lends them, and each has a clause of its own. `LinesFit`, `SettleFits` and
+// `FrameFits` speak of several of them, which no type of one of them could.
 #![tactic(auto)]
 
 mod steps;
 mod whole;
 
-ghost use Rattle.std.specs.Prelude.{◌≡◌, ◌≤◌, length};
+ghost use Rattle.std.specs.Prelude.{◌≡◌, false, ◌≤◌, length};
 ghost use Rattle.samples.specs.Sizes.{longest_frame};
 ghost use Rattle.unit.specs.Layout.{wall};
 ghost use Rattle.frame.specs.Workers.{AllWithin, WholeFits};
 ghost use Rattle.frame.specs.Steps.{stepped_on, ran, ran_with_room, finished, finished_with_room};
 
-use crate::steps::{move_lines, move_passes};
-use crate::whole::{finish_frame, judge_frame};
+use crate::steps::move_on;
+use crate::whole::{finish_frame, frame_rows};
 use delay::Cursors;
 use iir::Filter;
 use unit::{DIVISOR, FACTOR, FILTERS, LINES, PASS_RINGS, Rings, room_ok};
 
 // What a frame came to: whether all of it is finite, its filters, and the cursors of the rings after
 // it.
+// Kept (1): `run_frame` and `close_frame` promise filters and cursors of a frame that isn't finite too.
 #[derive(Clone, Copy)]
 pub struct Stepped {
     pub ok: bool,
@@ -47,15 +51,8 @@ pub fn run_frame(
     ensures work_after { work.new ≡ (ran wall f rings tail fs store.old work.old output.old).work }
     ensures output_after { output.new ≡ (ran wall f rings tail fs store.old work.old output.old).output }
 {
-    let lines = rings.lines.cursors;
-    let passes = rings.passes.cursors;
     if !room_ok(f, rings, store.len(), work.len(), output.len()) {
-        return Stepped {
-            ok: false,
-            filters: fs,
-            lines,
-            passes,
-        };
+        return not_stepped(rings, fs);
     }
     wall_frame(f, rings, tail, fs, store, work, output)
 }
@@ -76,11 +73,23 @@ fn wall_frame(
     ensures work_after { work.new ≡ (ran_with_room wall.lines f wall.factor wall.divisor tail rings fs store.old work.old output.old).work }
     ensures output_after { output.new ≡ (ran_with_room wall.lines f wall.factor wall.divisor tail rings fs store.old work.old output.old).output }
 {
-    let r = judge_frame(
-        LINES, f, FACTOR, DIVISOR, tail, rings, fs, store, work, output,
-    );
-    let filters = r.filters;
-    stepped_on(r.ok, f, rings, filters)
+    let gs = frame_rows(LINES, f, FACTOR, DIVISOR, tail, rings, fs, store, work);
+    let ok = finish_frame(LINES, f, rings, gs, store, work, output);
+    stepped_on(ok, f, rings, gs)
+}
+
+// What is given where there is no room: the filters and the cursors as they were.
+fn not_stepped(rings: Rings, fs: [Filter; FILTERS]) -> Stepped
+    ensures { result ≡ record { ok = false; filters = fs; lines = rings.lines.cursors; passes = rings.passes.cursors } }
+{
+    let lines = rings.lines.cursors;
+    let passes = rings.passes.cursors;
+    Stepped {
+        ok: false,
+        filters: fs,
+        lines,
+        passes,
+    }
 }
 
 // What a frame came to, its filters `fs`, with the cursors moved on.
@@ -88,12 +97,10 @@ fn stepped_on(ok: bool, f: usize, rings: Rings, fs: [Filter; FILTERS]) -> Steppe
     requires { (f ≤ longest_frame) × AllWithin wall rings }
     ensures { result ≡ stepped_on f rings ok fs }
 {
-    let ls = rings.lines.lengths;
-    let cs = rings.lines.cursors;
-    let ps = rings.passes.lengths;
-    let qs = rings.passes.cursors;
-    let lines = move_lines(LINES, f, ls, cs);
-    let passes = move_passes(f, ps, qs);
+    let mut lines = rings.lines.cursors;
+    let mut passes = rings.passes.cursors;
+    move_on(f, &rings.lines.lengths, &mut lines);
+    move_on(f, &rings.passes.lengths, &mut passes);
     Stepped {
         ok,
         filters: fs,
@@ -118,15 +125,8 @@ pub fn close_frame(
     ensures work_after { work.new ≡ (finished wall f rings fs store.old work.old output.old).work }
     ensures output_after { output.new ≡ (finished wall f rings fs store.old work.old output.old).output }
 {
-    let lines = rings.lines.cursors;
-    let passes = rings.passes.cursors;
     if !room_ok(f, rings, store.len(), work.len(), output.len()) {
-        return Stepped {
-            ok: false,
-            filters: fs,
-            lines,
-            passes,
-        };
+        return not_stepped(rings, fs);
     }
     wall_close(f, rings, fs, store, work, output)
 }

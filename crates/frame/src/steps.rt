@@ -4,16 +4,16 @@
 // unit of fewer lines pads with rings of length 0.
 ghost use Rattle.std.specs.Prelude.{◌≡◌, ◌++◌, ◌+◌, ◌-◌, ◌<◌, ◌≤◌, length, take, drop};
 ghost use Rattle.delay.specs.Calls.{longest_ring};
-ghost use Rattle.unit.specs.Layout.{wall};
 ghost use Rattle.stages.specs.Frame.{reads_of};
 ghost use Rattle.stages.specs.Settle.{settled, moved_by, all_moved};
 ghost use Rattle.frame.specs.Workers.{LinesFit, Within, lines_len};
 
 use delay::Cursors;
 use samples::Samples;
-use unit::{LINES, PASS_RINGS, Rings};
+use unit::Rings;
 
 // Reads a frame of each line, row after row.
+// Kept (3): no plainer. A turn reads two arrays at line i and moves two places on, and the fit of its ring is stated by i, which zipped arrays don't have.
 pub(crate) fn read_lines(n: usize, f: usize, rings: Rings, store: &[f32], rows: &mut [f32])
     requires { LinesFit n f rings (length store.now) (length rows.old) }
     ensures { rows.new ≡ reads_of n f rings store.now }
@@ -33,6 +33,7 @@ pub(crate) fn read_lines(n: usize, f: usize, rings: Rings, store: &[f32], rows: 
 }
 
 // Puts each row into its line's ring, and leaves what lies after the lines.
+// Kept (3): as in `read_lines`.
 pub(crate) fn put_lines(n: usize, f: usize, rings: Rings, rows: &[f32], store: &mut [f32])
     requires { LinesFit n f rings (length store.old) (length rows.now) }
     ensures { store.new ≡ settled n f rings rows.now (drop (lines_len n rings) store.old) store.old }
@@ -77,39 +78,15 @@ pub(crate) fn settle(
     put_rings(allpass, store);
 }
 
-// The cursors of n lines after a frame.
-pub(crate) fn move_lines(
-    n: usize,
-    f: usize,
-    ls: [usize; LINES],
-    cs: [Cursors; LINES],
-) -> [Cursors; LINES]
-    requires { (n ≤ wall.lines) × (f ≤ longest_ring) × Within n 0 ls cs }
-    ensures { result ≡ all_moved f (take n ls) cs }
+// The cursors of rings after a frame.
+// Kept (3): zipped with the lengths, `iter_mut` leaves no proof of what was written.
+pub(crate) fn move_on(f: usize, ls: &[usize], cs: &mut [Cursors])
+    requires { (f ≤ longest_ring) × (length cs.old ≡ length ls.now) × Within (length ls.now) 0 ls.now cs.old }
+    ensures { cs.new ≡ all_moved f ls.now cs.old }
 {
-    let mut ds = cs;
-    for i in 0..n {
-        let c = cs[i];
-        ds[i] = moved_by(f, ls[i], c);
+    for (i, c) in cs.iter_mut().enumerate() {
+        *c = moved_by(f, ls[i], *c);
     }
-    ds
-}
-
-// The cursors of the allpass rings after a frame.
-pub(crate) fn move_passes(
-    f: usize,
-    ls: [usize; PASS_RINGS],
-    cs: [Cursors; PASS_RINGS],
-) -> [Cursors; PASS_RINGS]
-    requires { (f ≤ longest_ring) × Within (length wall.pass_lengths) 0 ls cs }
-    ensures { result ≡ all_moved f ls cs }
-{
-    let mut ds = cs;
-    for i in 0..PASS_RINGS {
-        let c = cs[i];
-        ds[i] = moved_by(f, ls[i], c);
-    }
-    ds
 }
 
 // The cursors of a ring of length l, f samples on.
@@ -117,10 +94,8 @@ fn moved_by(f: usize, l: usize, c: Cursors) -> Cursors
     requires { (f ≤ longest_ring) × (l ≤ longest_ring) × (c.read.0 < l) × (c.write.0 < l) }
     ensures { result ≡ moved_by f l c }
 {
-    let read = c.read.0;
-    let write = c.write.0;
     Cursors {
-        read: Samples((read + f) % l),
-        write: Samples((write + f) % l),
+        read: Samples((c.read.0 + f) % l),
+        write: Samples((c.write.0 + f) % l),
     }
 }

@@ -2,28 +2,21 @@
 // is finite.
 ghost use Rattle.std.specs.Prelude.{◌≡◌, cond, ◌++◌, ◌+◌, ◌*◌, ◌<◌, ◌≤◌, length, take, drop};
 ghost use Rattle.delay.specs.Calls.{longest_ring};
-ghost use Rattle.unit.specs.Layout.{wall, places_of, filters_len, bands_len, filter_at};
+ghost use Rattle.unit.specs.Layout.{wall, places_of, bands_len, filter_at};
 ghost use Rattle.stages.specs.Frame.{line_rows, new_filters, reads_of, frame_in};
 ghost use Rattle.stages.specs.Settle.{settled};
 ghost use Rattle.rows.specs.Rows.{rows_of, joined_rows};
 ghost use Rattle.frame.specs.Parts.{rows_finite};
-ghost use Rattle.frame.specs.Steps.{rows_in, ran_with_room, finished_with_room};
-ghost use Rattle.frame.specs.Workers.{LinesFit, SettleFits, FrameFits, judged_of};
+ghost use Rattle.frame.specs.Steps.{rows_in, finished_with_room};
+ghost use Rattle.frame.specs.Workers.{LinesFit, SettleFits, FrameFits};
 
 use crate::steps::{read_lines, settle};
 use iir::Filter;
 use outputs::output_row;
 use rows::line_rows;
-use samples::{and, clear};
+use samples::clear;
 use search::all_finite;
 use unit::{FILTERS, Rings, work_places};
-
-// What a frame in the work memory came to: whether all of it is finite, and its filters.
-#[derive(Clone, Copy)]
-pub(crate) struct Judged {
-    pub(crate) ok: bool,
-    pub(crate) filters: [Filter; FILTERS],
-}
 
 // Steps 2 to 4: `rows` are the input, and become the input, n rows read and n to put. Gives the
 // filters after them.
@@ -81,8 +74,7 @@ pub(crate) fn frame_finite(n: usize, f: usize, fs: [Filter; FILTERS], work: &[f3
     ensures { result ≡ rows_finite fs (rows_of n f work.now) }
 {
     let p = work_places(n, f);
-    let mixed = p.mixed;
-    and(stages::filters_finite(fs), all_finite(&work[mixed..], f))
+    stages::filters_finite(fs) & all_finite(&work[p.mixed..], f)
 }
 
 // Puts the rows of a frame into the lines and its allpass rings after them, and hands its output out.
@@ -147,30 +139,4 @@ pub(crate) fn finish_frame(
     settle_if(ok, n, f, rings, work, store, output);
     clear(work);
     ok
-}
-
-// A frame in the work memory, which begins with the input; where all of it is finite, in the store
-// and the output too. The work memory is cleared.
-pub(crate) fn judge_frame(
-    n: usize,
-    f: usize,
-    factor: f32,
-    divisor: f32,
-    tail: bool,
-    rings: Rings,
-    fs: [Filter; FILTERS],
-    store: &mut [f32],
-    work: &mut [f32],
-    output: &mut [f32],
-) -> Judged
-    requires frame_fits { FrameFits n f rings (length store.old) (length work.old) }
-    requires output_and_filters { (length output.old ≡ f) × (filter_at n + bands_len ≡ filters_len wall) }
-    ensures value { result ≡ judged_of (ran_with_room n f factor divisor tail rings fs store.old work.old output.old).stepped }
-    ensures store_after { store.new ≡ (ran_with_room n f factor divisor tail rings fs store.old work.old output.old).store }
-    ensures work_after { work.new ≡ (ran_with_room n f factor divisor tail rings fs store.old work.old output.old).work }
-    ensures output_after { output.new ≡ (ran_with_room n f factor divisor tail rings fs store.old work.old output.old).output }
-{
-    let gs = frame_rows(n, f, factor, divisor, tail, rings, fs, store, work);
-    let ok = finish_frame(n, f, rings, gs, store, work, output);
-    Judged { ok, filters: gs }
 }

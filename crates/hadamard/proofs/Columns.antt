@@ -45,15 +45,6 @@ module _ (f t : ℕ) where
   column_more zero rows = rw (zero-mul, zero-add)
   column_more (suc n) rows = rw (column_more n (drop f rows), at_row)
 
-  -- a column asks nothing but its n rows
-  pub column_ext : t < f → (n : ℕ) (u v : List Float) → ((i : ℕ) → i < n * f → get_or u i nan ≡ get_or v i nan)
-      → column n f t u ≡ column n f t v
-  column_ext h zero u v same = refl
-  column_ext h (suc n) u v same =
-      let first = same t (omega (arith, suc-mul n f)) in
-      let rest = column_ext h n (drop f u) (drop f v) (λ i l. rw (get_or-drop f u, get_or-drop f v) (same (f + i) (omega (arith, suc-mul n f)))) in
-      λ i. first i ∷ rest i
-
 -- rows of one sample are one column
 pub one_column : (xs : List Float) → column (length xs) 1 0 xs ≡ xs
 one_column [] = refl

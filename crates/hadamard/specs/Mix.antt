@@ -1,13 +1,12 @@
 -- The mix of one sample of each line (R3.26 to R3.29), here of n lines, and times k.
-use Rattle.std.specs.Prelude.{Bool, cond, ◌&&◌, List, [], ◌∷◌, ◌++◌, ℕ, zero, suc, ◌%◌, eqb, Float}
+use Rattle.std.specs.Prelude.{Bool, cond, ◌&&◌, List, [], ◌∷◌, ◌++◌, ℕ, zero, suc, ◌%◌, eqb, Float, Err}
 use Rattle.std.specs.Int.Bits.{bit_and}
 use Rattle.std.specs.Int.Count.{ones}
 use Rattle.std.specs.Float.{binary32}
 use Rattle.std.specs.Float.Ieee.{of_bits}
 use Rattle.samples.specs.Binary32.{◌⊕◌, ◌⊖◌, ◌⊗◌, +0}
-use Rattle.samples.specs.Answers.{need}
-use Rattle.samples.specs.declared.Answer.{Answer}
-use Rattle.samples.specs.declared.Answer.TheVariants.{Accepted, BadLength}
+use Rattle.samples.specs.Answers.{Answer, Accepted, need}
+use Rattle.samples.specs.declared.Refusal.TheVariants.{BadLength}
 
 -- R3.26: the sign of row r and column c
 unfoldable pub minus : ℕ → ℕ → Bool
@@ -53,4 +52,4 @@ width = 16
 
 -- R3.29: a float of each line in both
 unfoldable pub judged_sample : ℕ → ℕ → Answer
-judged_sample x y = need (eqb x width && eqb y width) BadLength Accepted
+judged_sample x y = need (eqb x width && eqb y width) (Err BadLength) Accepted

@@ -1,9 +1,8 @@
 -- The mix of rows: n rows that were read, and after them n mixed rows, all of equal length.
-use Rattle.std.specs.Prelude.{◌≡◌, List, [], ◌∷◌, ◌++◌, ℕ, zero, suc, ◌*◌, ◌/◌, ◌%◌, eqb, length, get_or, take, drop, Float}
+use Rattle.std.specs.Prelude.{◌≡◌, List, [], ◌∷◌, ◌++◌, ℕ, zero, suc, ◌*◌, ◌/◌, ◌%◌, eqb, length, get_or, take, drop, Float, Err}
 use Rattle.std.specs.Float.{nan}
-use Rattle.samples.specs.Answers.{need}
-use Rattle.samples.specs.declared.Answer.{Answer}
-use Rattle.samples.specs.declared.Answer.TheVariants.{Accepted, BadLength}
+use Rattle.samples.specs.Answers.{Answer, Accepted, need}
+use Rattle.samples.specs.declared.Refusal.TheVariants.{BadLength}
 use Rattle.hadamard.specs.Mix.{each, joined, mix_at, mixed}
 
 -- sample t of each of n rows of f samples
@@ -25,7 +24,7 @@ OneSample = (n : ℕ) (k : Float) (xs : List Float) → length xs ≡ n → mixe
 
 -- R3.31: a multiple of 2 n, which with no lines is 0 alone
 unfoldable pub judged_rows : ℕ → ℕ → Answer
-judged_rows n len = need (eqb (len % (2 * n)) 0) BadLength Accepted
+judged_rows n len = need (eqb (len % (2 * n)) 0) (Err BadLength) Accepted
 
 -- R3.31: the rows that were read as they were, and the mixed rows of them
 unfoldable pub rows_mixed : ℕ → Float → List Float → List Float

@@ -8,7 +8,7 @@ ghost use Rattle.std.specs.Prelude.{◌≡◌, ◌<◌, length};
 ghost use Rattle.samples.specs.Answers.{accept};
 ghost use Rattle.hadamard.specs.Mix.{minus, plus_minus, mix_at, mixed, quarter, width, judged_sample};
 
-use samples::{Answer, and, is_accepted, need};
+use samples::{Answer, Refusal, need};
 
 // How many lines the mix on its own is of (R3.29).
 const WIDTH: usize = 16;
@@ -17,6 +17,7 @@ const WIDTH: usize = 16;
 const QUARTER: f32 = 0.25;
 
 // Whether row r of the mix takes column c with a minus (R3.26).
+#[tactic(auto, unfolding(crate::specs::Mix::minus))]
 pub fn minus(r: usize, c: usize) -> bool
     ensures { result ≡ minus r c }
 {
@@ -24,16 +25,14 @@ pub fn minus(r: usize, c: usize) -> bool
 }
 
 // Mixes one sample of each of sixteen lines (R3.29).
+#[tactic(auto, unfolding(crate::specs::Mix::judged_sample))]
 pub fn mix_sample(x: &[f32], y: &mut [f32]) -> Answer
     ensures value { result ≡ judged_sample (length x.now) (length y.old) }
     ensures y_after { y.new ≡ accept result (mixed width quarter x.now) y.old }
 {
-    let ok = and(x.len() == WIDTH, y.len() == WIDTH);
-    let a = need(ok, Answer::BadLength, Answer::Accepted);
-    if is_accepted(a) {
-        mix_column(x, QUARTER, y);
-    }
-    a
+    need((x.len() == WIDTH) & (y.len() == WIDTH), Refusal::BadLength)?;
+    mix_column(x, QUARTER, y);
+    Ok(())
 }
 
 // Mixes one sample of each line, times k.
@@ -41,8 +40,8 @@ fn mix_column(x: &[f32], k: f32, y: &mut [f32])
     requires { (0 < length x.now) × (length y.old ≡ length x.now) }
     ensures { y.new ≡ mixed (length x.now) k x.now }
 {
-    for r in 0..x.len() {
-        y[r] = mix_at(x, k, r);
+    for (r, sum) in y.iter_mut().enumerate() {
+        *sum = mix_at(x, k, r);
     }
 }
 
@@ -52,8 +51,8 @@ fn mix_at(x: &[f32], k: f32, r: usize) -> f32
     ensures { result ≡ mix_at k r x.now }
 {
     let mut sum = x[0];
-    for c in 1..x.len() {
-        sum = plus_minus(minus(r, c), sum, x[c]);
+    for (i, sample) in x[1..].iter().enumerate() {
+        sum = plus_minus(minus(r, i + 1), sum, *sample);
     }
     sum * k
 }

@@ -10,8 +10,7 @@ use Rattle.delay.specs.declared.RingAnswer.{RingAnswer}
 use Rattle.primes.specs.declared.Value.{Value}
 use Rattle.unit.specs.declared.Outcome.{Outcome}
 use Rattle.unit.specs.declared.FramesOutcome.{FramesOutcome}
-use Rattle.wave.specs.declared.Reading.{Reading}
-use Rattle.wave.specs.Reading.{read_number, read_place, take_of}
+use Rattle.wave.specs.Reading.{Reading, read_number, read_place, take_of}
 use Rattle.hall.specs.declared.HallAnswer.{HallAnswer}
 use Rattle.hall.specs.declared.HallFourAnswer.{HallFourAnswer}
 use Rattle.hall.specs.declared.HallFramesAnswer.{HallFramesAnswer}

@@ -1,6 +1,6 @@
 // How the answer of a call is turned into what C is answered.
 ghost use Rattle.std.specs.Prelude.{◌≡◌};
-ghost use Rattle.hall.specs.Face.{remains, faced, faced_frames, faced_ring, faced_four, faced_value, faced_wave};
+ghost use Rattle.hall.specs.Face.{faced, faced_frames, faced_ring, faced_four, faced_value, faced_wave};
 
 use crate::{HallAnswer, HallFourAnswer, HallFramesAnswer, HallRingAnswer, HallValue, HallWave};
 use audio_buffer::AudioEffectState;
@@ -10,99 +10,93 @@ use samples::{index, number};
 use unit::{FramesOutcome, Outcome};
 use wave::{Reading, read_number, read_place, take_of};
 
-// Whether a verdict says that the tail has frames left.
-pub(crate) fn remains(verdict: AudioEffectState) -> bool
-    ensures { result ≡ remains verdict }
-{
-    match verdict {
-        AudioEffectState::TailRemaining => true,
-        AudioEffectState::TailComplete => false,
-    }
-}
-
 // The outcome of a call of the unit, for C.
-pub(crate) fn faced(o: Outcome) -> HallAnswer
-    ensures { result ≡ faced o }
-{
-    let answer = o.answer;
-    let verdict = o.verdict;
-    let state = o.state;
-    HallAnswer {
-        number: number(answer),
-        index: index(answer),
-        remaining: remains(verdict),
-        state,
+impl From<Outcome> for HallAnswer {
+    ghost from_gives = { λ o r. r ≡ faced o };
+
+    #[tactic(auto, unfolding(crate::specs::Face::faced))]
+    fn from(o: Outcome) -> HallAnswer {
+        HallAnswer {
+            number: number(o.answer),
+            index: index(o.answer),
+            remaining: o.verdict == AudioEffectState::TailRemaining,
+            state: o.state,
+        }
     }
 }
 
 // The outcome of several frames, for C.
-pub(crate) fn faced_frames(r: FramesOutcome) -> HallFramesAnswer
-    ensures { result ≡ faced_frames r }
-{
-    let o = r.outcome;
-    let answer = o.answer;
-    let verdict = o.verdict;
-    let state = o.state;
-    let done = r.done;
-    HallFramesAnswer {
-        number: number(answer),
-        index: index(answer),
-        done,
-        remaining: remains(verdict),
-        state,
+impl From<FramesOutcome> for HallFramesAnswer {
+    ghost from_gives = { λ x r. r ≡ faced_frames x };
+
+    #[tactic(auto, unfolding(crate::specs::Face::faced_frames))]
+    fn from(x: FramesOutcome) -> HallFramesAnswer {
+        let o = x.outcome;
+        HallFramesAnswer {
+            number: number(o.answer),
+            index: index(o.answer),
+            done: x.done,
+            remaining: o.verdict == AudioEffectState::TailRemaining,
+            state: o.state,
+        }
     }
 }
 
 // The answer of a ring alone, for C.
-pub(crate) fn faced_ring(r: RingAnswer) -> HallRingAnswer
-    ensures { result ≡ faced_ring r }
-{
-    let answer = r.answer;
-    let cursors = r.cursors;
-    HallRingAnswer {
-        number: number(answer),
-        cursors,
+impl From<RingAnswer> for HallRingAnswer {
+    ghost from_gives = { λ a r. r ≡ faced_ring a };
+
+    #[tactic(auto, unfolding(crate::specs::Face::faced_ring))]
+    fn from(a: RingAnswer) -> HallRingAnswer {
+        HallRingAnswer {
+            number: number(a.answer),
+            cursors: a.cursors,
+        }
     }
 }
 
 // The answer of a ring alone with four samples, for C.
-pub(crate) fn faced_four(r: FourAnswer) -> HallFourAnswer
-    ensures { result ≡ faced_four r }
-{
-    let answer = r.answer;
-    let cursors = r.cursors;
-    let x = r.x;
-    HallFourAnswer {
-        number: number(answer),
-        cursors,
-        x,
+impl From<FourAnswer> for HallFourAnswer {
+    ghost from_gives = { λ a r. r ≡ faced_four a };
+
+    #[tactic(auto, unfolding(crate::specs::Face::faced_four))]
+    fn from(a: FourAnswer) -> HallFourAnswer {
+        HallFourAnswer {
+            number: number(a.answer),
+            cursors: a.cursors,
+            x: a.x,
+        }
     }
 }
 
 // A delay value, for C.
-pub(crate) fn faced_value(v: Value) -> HallValue
-    ensures { result ≡ faced_value v }
-{
-    let answer = v.answer;
-    HallValue {
-        number: number(answer),
-        value: v.value,
+impl From<Value> for HallValue {
+    ghost from_gives = { λ v r. r ≡ faced_value v };
+
+    #[tactic(auto, unfolding(crate::specs::Face::faced_value))]
+    fn from(v: Value) -> HallValue {
+        HallValue {
+            number: number(v.answer),
+            value: v.value,
+        }
     }
 }
 
 // What is read of a take, for C.
-pub(crate) fn faced_wave(r: Reading) -> HallWave
-    ensures { result ≡ faced_wave r }
-{
-    let t = take_of(r);
-    let f = t.format;
-    HallWave {
-        number: read_number(r),
-        place: read_place(r),
-        rate: f.rate,
-        channels: f.channels,
-        tag: f.tag,
-        first: t.first,
-        len: t.len,
+impl From<Reading> for HallWave {
+    ghost from_gives = { λ x r. r ≡ faced_wave x };
+
+    #[tactic(auto, unfolding(crate::specs::Face::faced_wave))]
+    fn from(x: Reading) -> HallWave {
+        let t = take_of(x);
+        HallWave {
+            number: read_number(x),
+            place: read_place(x),
+            rate: t.format.rate,
+            channels: t.format.channels,
+            tag: t.format.tag,
+            first: t.first,
+            len: t.len,
+        }
     }
 }

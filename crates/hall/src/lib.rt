@@ -31,6 +31,7 @@ use unit::State;
 pub use units::{hall_apply, hall_apply_frames, hall_fresh, hall_reset, hall_tail};
 
 // A call of the unit: its number, the first bad sample, whether the tail has frames left, the state.
+// Kept (1): C has no enum that carries a value.
 #[repr(C)]
 #[derive(Clone, Copy)]
 pub struct HallAnswer {
@@ -41,6 +42,7 @@ pub struct HallAnswer {
 }
 
 // The same of several frames, with how many of them were done.
+// Kept (1): C has no enum that carries a value.
 #[repr(C)]
 #[derive(Clone, Copy)]
 pub struct HallFramesAnswer {
@@ -52,6 +54,7 @@ pub struct HallFramesAnswer {
 }
 
 // A call of a ring alone.
+// Kept (1): C has no enum that carries a value.
 #[repr(C)]
 #[derive(Clone, Copy)]
 pub struct HallRingAnswer {
@@ -60,6 +63,7 @@ pub struct HallRingAnswer {
 }
 
 // The same with four samples.
+// Kept (1): C has no enum that carries a value.
 #[repr(C)]
 #[derive(Clone, Copy)]
 pub struct HallFourAnswer {
@@ -69,6 +73,7 @@ pub struct HallFourAnswer {
 }
 
 // A delay value.
+// Kept (1): C has no enum that carries a value.
 #[repr(C)]
 #[derive(Clone, Copy)]
 pub struct HallValue {
@@ -77,6 +82,7 @@ pub struct HallValue {
 }
 
 // What is read of a take: the number and the place of a refusal, the format, and where the data lies.
+// Kept (1): C has no enum that carries a value.
 #[repr(C)]
 #[derive(Clone, Copy)]
 pub struct HallWave {

@@ -5,13 +5,12 @@ ghost use Rattle.wave.specs.Floats.{floats_of};
 ghost use Rattle.hall.specs.Face.{faced_wave};
 
 use crate::HallWave;
-use crate::answers::faced_wave;
 
 // Reads a RIFF/WAVE file (R11.14).
 pub fn hall_wave_read(file: &[u8]) -> HallWave
     ensures { result ≡ faced_wave (reading file.now) }
 {
-    faced_wave(wave::read(file))
+    HallWave::from(wave::read(file))
 }
 
 // Fills `out` with the floats of a take's bytes (R11.13).

@@ -7,7 +7,6 @@ ghost use Rattle.machine.specs.Whole.{begun, silenced, at_once};
 ghost use Rattle.machine.specs.Several.{several, frames_outcome_of};
 ghost use Rattle.hall.specs.Face.{faced, faced_frames, times_of};
 
-use crate::answers::{faced, faced_frames};
 use crate::{HallAnswer, HallFramesAnswer};
 use bands::Times;
 use unit::State;
@@ -17,7 +16,7 @@ pub fn hall_fresh(rate: u32, frame: usize, store: &mut [f32]) -> HallAnswer
     ensures value { result ≡ faced (outcome_of (begun wall rate frame store.old)) }
     ensures store_after { store.new ≡ (begun wall rate frame store.old).memory.store }
 {
-    faced(reverb::fresh(rate, frame, store))
+    HallAnswer::from(reverb::fresh(rate, frame, store))
 }
 
 // Silences the unit: its store is cleared and no tail is left. Cursors and filters
@@ -26,7 +25,7 @@ pub fn hall_reset(s: State, store: &mut [f32]) -> HallAnswer
     ensures value { result ≡ faced (outcome_of (silenced wall (lend s store.old []))) }
     ensures store_after { store.new ≡ (silenced wall (lend s store.old [])).memory.store }
 {
-    faced(reverb::reset(s, store))
+    HallAnswer::from(reverb::reset(s, store))
 }
 
 // A frame of input: the lines sound through filters of the given coefficients, the input is added to
@@ -52,7 +51,7 @@ pub fn hall_apply(
         mid: t1,
         high: t2,
     };
-    faced(reverb::apply(s, t, coefficients, input, store, work, output))
+    HallAnswer::from(reverb::apply(s, t, coefficients, input, store, work, output))
 }
 
 // Up to 1,024 frames of input, as the same applies made singly, with one set of times and coefficients. It
@@ -78,7 +77,7 @@ pub fn hall_apply_frames(
         mid: t1,
         high: t2,
     };
-    faced_frames(reverb::apply_frames(s, t, coefficients, input, store, work, output))
+    HallFramesAnswer::from(reverb::apply_frames(s, t, coefficients, input, store, work, output))
 }
 
 // A frame after the input has ended: the lines go on sounding through the filters kept, and one frame
@@ -89,5 +88,5 @@ pub fn hall_tail(s: State, store: &mut [f32], work: &mut [f32], output: &mut [f3
     ensures work_after { work.new ≡ (at_once wall (lend s store.old work.old) Play.tail output.old).memory.work }
     ensures output_after { output.new ≡ (at_once wall (lend s store.old work.old) Play.tail output.old).output }
 {
-    faced(reverb::tail(s, store, work, output))
+    HallAnswer::from(reverb::tail(s, store, work, output))
 }

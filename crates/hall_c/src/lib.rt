@@ -1,6 +1,7 @@
 // The C face as C links it: each call of `hall` under its own name, by C's calling convention.
 //
 // An export here is the call of that name, with its contract.
+// Kept (2): each is a twin, as a crate is a library or a static library that C links, and not both.
 #![tactic(auto)]
 
 mod buffers;

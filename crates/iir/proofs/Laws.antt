@@ -1,16 +1,18 @@
 -- The laws of runs and of a filter's nine numbers. `step_out` alone looks inside a step. Assumes nothing.
 use mathlib.Core.Path.{◌≡◌, refl, ap, ◌∙◌}
-use mathlib.Core.Bool.{Bool, true}
+use mathlib.Core.Bool.{Bool, true, ◌&&◌}
 use mathlib.Core.List.{List, [], ◌∷◌, ◌++◌}
 use Prim.Native.Nat.{suc}
 use lib.ListN.{length}
 use lib.Ieee.{Float}
+use Rattle.std.specs.List.{fold}
+use Rattle.std.proofs.Math.Bool.{and_assoc}
 use Rattle.samples.proofs.Laws.{split_and}
 use Rattle.iir.specs.declared.Filter.{Filter}
 use Rattle.iir.specs.declared.Bands.{Bands}
 use Rattle.iir.specs.Step.{out_of, step}
 use Rattle.iir.specs.Runs.{run_out, run_end, bands_out, bands_end}
-use Rattle.iir.specs.Nine.{nine}
+use Rattle.iir.specs.Nine.{numbers, nine}
 
 -- what comes out of a step is the `y1` that it leaves
 pub step_out : (f : Filter) (x : Float) → (step f x).y1 ≡ out_of f x
@@ -71,7 +73,26 @@ module _ (f : Filter) {g : Filter} {x : Float} {l r : List Float} (e : g ≡ ste
   pub peel_end : run_end f l ≡ run_end g r
   peel_end = rw (h, e)
 
+-- and of three bands: f0 to f2 are the filters after it
+module _ (b : Bands) {f0 f1 f2 : Filter} {x : Float} {l r : List Float}
+    (e0 : f0 ≡ step b.f0 x) (e1 : f1 ≡ step b.f1 f0.y1) (e2 : f2 ≡ step b.f2 f1.y1) (h : l ≡ x ∷ r) where
+  pub bands_peel : bands_out b l ≡ f2.y1 ∷ bands_out (record { f0 = f0; f1 = f1; f2 = f2 }) r
+  unfolding bands_out
+  bands_peel = peel b.f2 e2 (peel b.f1 e1 (peel b.f0 e0 h))
+
+  pub bands_peel_end : bands_end (record { f0 = f0; f1 = f1; f2 = f2 }) r ≡ bands_end b l
+  unfolding bands_end
+  bands_peel_end =
+      let p0 = peel b.f0 e0 h in
+      let p1 = peel b.f1 e1 p0 in
+      rw (peel_end b.f0 e0 h, peel_end b.f1 e1 p0, peel_end b.f2 e2 p1) refl
+
 -- ---- nine numbers
+
+-- a test of each of them in turn is the test of the nine
+pub nine_fold : (p : Float → Bool) (f : Filter) (r : Bool) → r ≡ fold (λ ok x. ok && p x) true (numbers f) → r ≡ nine p f
+unfolding nine
+nine_fold p f r e = simp and_assoc at e
 
 -- what a test says of a filter, it says of each of its numbers
 pub record Each (p : Float → Bool) (f : Filter) : Type 0 where

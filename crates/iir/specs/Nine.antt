@@ -1,7 +1,11 @@
 -- Tests of a filter's nine numbers.
-use Rattle.std.specs.Prelude.{Bool, ◌&&◌, Float}
+use Rattle.std.specs.Prelude.{Bool, ◌&&◌, List, [], ◌∷◌, Float}
 use Rattle.samples.specs.Binary32.{finite, plus_zero}
 use Rattle.iir.specs.declared.Filter.{Filter}
+
+-- the nine in their order
+abbrev pub numbers : Filter → List Float
+numbers f = f.a1 ∷ f.a2 ∷ f.b0 ∷ f.b1 ∷ f.b2 ∷ f.x1 ∷ f.x2 ∷ f.y1 ∷ f.y2 ∷ []
 
 -- R1.14: p holds of each of the nine
 unfoldable pub nine : (Float → Bool) → Filter → Bool

@@ -3,12 +3,10 @@
 // Its contracts cite `specs/`: the step, the runs, and the tests of a filter's nine numbers.
 #![tactic(auto)]
 
-ghost use Rattle.std.specs.Prelude.{◌≡◌, ◌&&◌};
+ghost use Rattle.std.specs.Prelude.{◌≡◌};
 ghost use Rattle.iir.specs.Step.{from_coefficients, step};
 ghost use Rattle.iir.specs.Runs.{run_out, run_end, bands_out, bands_end};
-ghost use Rattle.iir.specs.Nine.{finite_filter, blank_filter};
-
-use samples::{and, is_plus_zero};
+ghost use Rattle.iir.specs.Nine.{numbers, finite_filter, blank_filter};
 
 // Five coefficients, and the last two samples that went in and that came out.
 #[repr(C)]
@@ -75,88 +73,51 @@ pub fn run(f: Filter, xs: &mut [f32]) -> Filter
     ensures xs_after { xs.new ≡ run_out f xs.old }
 {
     let mut g = f;
-    let mut i = 0usize;
-    while i < xs.len() {
-        g = filtered(g, xs[i]);
-        xs[i] = g.y1;
-        i += 1;
+    for x in xs.iter_mut() {
+        g = filtered(g, *x);
+        *x = g.y1;
     }
     g
 }
 
 // Filters a row in place by band 0, then 1, then 2, in one pass over it (R3.25).
+#[tactic(auto, unfolding(crate::specs::Runs::bands_out, crate::specs::Runs::bands_end))]
 pub fn three_bands(b: Bands, xs: &mut [f32]) -> Bands
     ensures value { result ≡ bands_end b xs.old }
     ensures xs_after { xs.new ≡ bands_out b xs.old }
 {
-    let mut g0 = b.f0;
-    let mut g1 = b.f1;
-    let mut g2 = b.f2;
-    let mut i = 0usize;
-    while i < xs.len() {
-        g0 = filtered(g0, xs[i]);
-        g1 = filtered(g1, g0.y1);
-        g2 = filtered(g2, g1.y1);
-        xs[i] = g2.y1;
-        i += 1;
+    let mut g = b;
+    for x in xs.iter_mut() {
+        g.f0 = filtered(g.f0, *x);
+        g.f1 = filtered(g.f1, g.f0.y1);
+        g.f2 = filtered(g.f2, g.f1.y1);
+        *x = g.f2.y1;
     }
-    Bands {
-        f0: g0,
-        f1: g1,
-        f2: g2,
-    }
+    g
 }
 
-// Whether all nine numbers of a filter are finite (R4.14).
+// A filter's nine numbers.
+fn numbers(f: Filter) -> [f32; 9]
+    ensures { result ≡ numbers f }
+{
+    [f.a1, f.a2, f.b0, f.b1, f.b2, f.x1, f.x2, f.y1, f.y2]
+}
+
+// Whether all nine numbers of a filter are finite (R4.14). Each is tested, also after one that is not.
 pub fn is_finite(f: Filter) -> bool
     ensures { result ≡ finite_filter f }
 {
-    nine(
-        samples::is_finite(f.a1),
-        samples::is_finite(f.a2),
-        samples::is_finite(f.b0),
-        samples::is_finite(f.b1),
-        samples::is_finite(f.b2),
-        samples::is_finite(f.x1),
-        samples::is_finite(f.x2),
-        samples::is_finite(f.y1),
-        samples::is_finite(f.y2),
-    )
+    numbers(f)
+        .iter()
+        .fold(true, |ok, x| ok & samples::is_finite(*x))
 }
 
-// Whether all nine numbers of a filter are exactly +0 (R1.30).
+// Whether all nine numbers of a filter are exactly +0 (R1.30). Each is tested here too.
+// Kept (2): beside `is_finite`. A function of the test for both would be as long as the two, each of which is one chain.
 pub fn is_blank(f: Filter) -> bool
     ensures { result ≡ blank_filter f }
 {
-    nine(
-        is_plus_zero(f.a1),
-        is_plus_zero(f.a2),
-        is_plus_zero(f.b0),
-        is_plus_zero(f.b1),
-        is_plus_zero(f.b2),
-        is_plus_zero(f.x1),
-        is_plus_zero(f.x2),
-        is_plus_zero(f.y1),
-        is_plus_zero(f.y2),
-    )
-}
-
-// Whether a test passed for each of a filter's nine numbers.
-fn nine(
-    a1: bool,
-    a2: bool,
-    b0: bool,
-    b1: bool,
-    b2: bool,
-    x1: bool,
-    x2: bool,
-    y1: bool,
-    y2: bool,
-) -> bool
-    ensures { result ≡ (a1 && (a2 && (b0 && (b1 && (b2 && (x1 && (x2 && (y1 && y2)))))))) }
-{
-    and(
-        a1,
-        and(a2, and(b0, and(b1, and(b2, and(x1, and(x2, and(y1, y2))))))),
-    )
+    numbers(f)
+        .iter()
+        .fold(true, |ok, x| ok & samples::is_plus_zero(*x))
 }

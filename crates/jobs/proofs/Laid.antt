@@ -1,4 +1,5 @@
 -- What a job leaves of the work memory: its own rows anew, and all others as they were. Assumes nothing.
+use Rattle.std.specs.Prelude.{Err}
 use mathlib.Core.Path.{◌≡◌, refl, sym, ap, ◌∙◌}
 use mathlib.Core.Bool.{Bool, true}
 use mathlib.Core.List.{List, ◌++◌, append_assoc}
@@ -8,9 +9,8 @@ use lib.Ieee.{Float}
 use lib.ListN.{length, take, drop, length-append}
 use lib.Seq.{length-take-le}
 use borrow.Rule.Slice.PartMut.{put_mid}
-use Rattle.samples.specs.declared.Answer.{Answer}
-use Rattle.samples.specs.declared.Answer.TheVariants.{Accepted, BadState, BadLength, BadIndex, OutOfTurn}
-use Rattle.samples.specs.Answers.{accept, need}
+use Rattle.samples.specs.declared.Refusal.TheVariants.{BadState, BadLength, BadIndex, OutOfTurn}
+use Rattle.samples.specs.Answers.{Answer, Accepted, accept, need}
 use Rattle.samples.specs.Sizes.{rate_ok, frame_ok}
 use Rattle.samples.proofs.Laws.{split_and, join_and, needed}
 use Rattle.samples.proofs.Turns.{middle}
@@ -104,6 +104,6 @@ module _ (u : UnitState) (work : List Float) (room : Bool) (e : room ≡ true) w
 pub line_of : (u : UnitState) (lent line turn : Bool) → judged wall u lent line turn ≡ Accepted → line ≡ true
 unfolding judged
 line_of u lent line turn e =
-    let p = needed (in_range wall u) BadState (need lent BadLength (need line BadIndex (need turn OutOfTurn Accepted))) refl e in
-    let q = needed lent BadLength (need line BadIndex (need turn OutOfTurn Accepted)) refl p.1 in
-    (needed line BadIndex (need turn OutOfTurn Accepted) refl q.1).0
+    let p = needed (in_range wall u) (Err BadState) (need lent (Err BadLength) (need line (Err BadIndex) (need turn (Err OutOfTurn) Accepted))) refl e in
+    let q = needed lent (Err BadLength) (need line (Err BadIndex) (need turn (Err OutOfTurn) Accepted)) refl p.1 in
+    (needed line (Err BadIndex) (need turn (Err OutOfTurn) Accepted) refl q.1).0

@@ -1,4 +1,5 @@
 -- From a judgement that lets a call by to what it tells: room for its frame, and what an apply is given. Assumes nothing.
+use Rattle.std.specs.Prelude.{Err}
 use mathlib.Core.Path.{◌≡◌, refl, sym, ◌∙◌}
 use mathlib.Core.Bool.{Bool, true, false, not, ◌&&◌, ◌||◌, cond}
 use mathlib.Core.List.{List, []}
@@ -8,9 +9,8 @@ use lib.Dec.{leb}
 use lib.Ieee.{Float}
 use lib.ListN.{length, replicate}
 use borrow.Author.Tests.{not-true, leb-true, eqb-true, eq-eqb}
-use Rattle.samples.specs.declared.Answer.{Answer}
-use Rattle.samples.specs.declared.Answer.TheVariants.{Accepted, BadState, BadLength, BadIndex, OutOfTurn, BadTime, BadCoefficient}
-use Rattle.samples.specs.Answers.{need, accepted, or_else}
+use Rattle.samples.specs.declared.Refusal.TheVariants.{BadState, BadLength, BadIndex, OutOfTurn, BadTime, BadCoefficient}
+use Rattle.samples.specs.Answers.{Answer, Accepted, need, accepted, or_else}
 use Rattle.samples.specs.Sizes.{rate_ok, frame_ok}
 use Rattle.samples.proofs.Laws.{split_and, join_and, needed, is_accepted, accept_no, frame_of}
 use Rattle.search.specs.Search.{first_bad, all_finite}
@@ -36,10 +36,10 @@ pub record Told (m : Model) (u : UnitState) (slices line turn : Bool) : Type 0 w
 pub told : (m : Model) (u : UnitState) (slices line turn : Bool) → judged m u slices line turn ≡ Accepted → Told m u slices line turn
 unfolding judged
 told m u slices line turn e =
-    let p = needed (in_range m u) BadState (need slices BadLength (need line BadIndex (need turn OutOfTurn Accepted))) refl e in
-    let q = needed slices BadLength (need line BadIndex (need turn OutOfTurn Accepted)) refl p.1 in
-    let r = needed line BadIndex (need turn OutOfTurn Accepted) refl q.1 in
-    record { range = p.0; slices_ok = q.0; line_ok = r.0; on_turn = (needed turn OutOfTurn Accepted refl r.1).0 }
+    let p = needed (in_range m u) (Err BadState) (need slices (Err BadLength) (need line (Err BadIndex) (need turn (Err OutOfTurn) Accepted))) refl e in
+    let q = needed slices (Err BadLength) (need line (Err BadIndex) (need turn (Err OutOfTurn) Accepted)) refl p.1 in
+    let r = needed line (Err BadIndex) (need turn (Err OutOfTurn) Accepted) refl q.1 in
+    record { range = p.0; slices_ok = q.0; line_ok = r.0; on_turn = (needed turn (Err OutOfTurn) Accepted refl r.1).0 }
 
 -- and of the state's parts and of the lengths
 pub record Due (u : UnitState) (Lent_ok : Bool) : Type 0 where
@@ -100,7 +100,7 @@ given_of u t coefficients input lent e =
     let d = due_of u (given && lent) true (not u.held.busy) p.0 in
     let l = split_and given lent d.lent in
     let g = split_and _ _ l.0 in
-    let times = (needed (times_ok t) BadTime _ refl p.1).0 in
+    let times = (needed (times_ok t) (Err BadTime) _ refl p.1).0 in
     record {
       due = record { sizes = d.sizes; cursors = d.cursors; lent = l.1 };
       given = eqb-true _ _ g.0;
@@ -153,7 +153,7 @@ frames_let_by m u t coefficients input store work output e =
     let g = split_and _ _ l.0 in
     let io = split_and _ _ g.1 in
     let sw = split_and (store_ok m u store) (work_ok m u work) l.1 in
-    let times = needed (times_ok t) BadTime _ refl p.1 in
+    let times = needed (times_ok t) (Err BadTime) _ refl p.1 in
     record {
       range = d.range;
       free = not-true u.held.busy d.on_turn;
@@ -164,7 +164,7 @@ frames_let_by m u t coefficients input store work output e =
       rings = eqb-true _ _ sw.0;
       rows = eqb-true _ _ sw.1;
       times = times.0;
-      finite = (needed (all_finite coefficients) BadCoefficient _ refl times.1).0;
+      finite = (needed (all_finite coefficients) (Err BadCoefficient) _ refl times.1).0;
     }
 
 -- an apply of a unit in range with no frame open, with such times and coefficients and all lengths right, is judged by 8 alone

@@ -1,10 +1,7 @@
 -- What is due of a call: the least number that applies (R2.2), lengths by the state's own F (R2.4).
-use Rattle.std.specs.Prelude.{ℕ, ◌/◌, ◌%◌, Bool, true, not, ◌&&◌, List, [], eqb, leb, Float, length}
-use Rattle.samples.specs.declared.Answer.{Answer}
-use Rattle.samples.specs.declared.Answer.TheVariants.{Accepted, BadState, BadSize, BadLength, BadIndex, OutOfTurn, BadTime, BadCoefficient, BadSample}
-use Rattle.search.specs.declared.Found.{Found}
-use Rattle.search.specs.declared.Found.TheVariants.{At, Nothing}
-use Rattle.samples.specs.Answers.{need, or_else}
+use Rattle.std.specs.Prelude.{ℕ, ◌/◌, ◌%◌, Bool, true, not, ◌&&◌, List, [], eqb, leb, Float, length, Option, Some, None, Err}
+use Rattle.samples.specs.declared.Refusal.TheVariants.{BadState, BadSize, BadLength, BadIndex, OutOfTurn, BadTime, BadCoefficient, BadSample}
+use Rattle.samples.specs.Answers.{Answer, Accepted, need, or_else}
 use Rattle.search.specs.Search.{first_bad, all_finite}
 use Rattle.samples.specs.Sizes.{rate_ok, frame_ok}
 use Rattle.bands.specs.declared.Times.{Times}
@@ -21,13 +18,13 @@ store_ok m u store = eqb store (store_len m (lengths m u))
 -- R2.20: fresh, 2 and then 3, unless the store is that of the unit to be given
 unfoldable pub judged_fresh : Model → ℕ → ℕ → ℕ → Answer
 judged_fresh m rate frame store =
-    need (rate_ok rate && frame_ok frame) BadSize (need (store_ok m (fresh_unit m rate frame) store) BadLength Accepted)
+    need (rate_ok rate && frame_ok frame) (Err BadSize) (need (store_ok m (fresh_unit m rate frame) store) (Err BadLength) Accepted)
 
 -- R2.11, R2.13 to R2.15: any other call of the unit. 1, then 3 unless every lent slice has its length, 4 unless its line, or how many frames it
 -- is handed, is in range, and 5 unless it is its turn
 unfoldable pub judged : Model → UnitState → Bool → Bool → Bool → Answer
 judged m u lent line turn =
-    need (in_range m u) BadState (need lent BadLength (need line BadIndex (need turn OutOfTurn Accepted)))
+    need (in_range m u) (Err BadState) (need lent (Err BadLength) (need line (Err BadIndex) (need turn (Err OutOfTurn) Accepted)))
 
 abbrev pub work_ok : Model → UnitState → ℕ → Bool
 work_ok m u work = eqb work (work_len m u.settings.frame)
@@ -37,14 +34,14 @@ abbrev pub given_ok : Model → UnitState → ℕ → ℕ → Bool
 given_ok m u coefficients input = eqb coefficients (coefficients_len m) && eqb input u.settings.frame
 
 -- R2.18: 8, and where the first one stands
-abbrev pub bad_input : Found → Answer
-bad_input (At i) = BadSample i
-bad_input Nothing = Accepted
+abbrev pub bad_input : Option ℕ → Answer
+bad_input (Some i) = Err (BadSample i)
+bad_input None = Accepted
 
 -- R2.16 to R2.18: what an apply is given besides, 6, then 7, then 8
 unfoldable pub judged_given : Times → List Float → List Float → Answer
 judged_given t coefficients input =
-    need (times_ok t) BadTime (need (all_finite coefficients) BadCoefficient (bad_input (first_bad input)))
+    need (times_ok t) (Err BadTime) (need (all_finite coefficients) (Err BadCoefficient) (bad_input (first_bad input)))
 
 -- R2.21: reset, 1 3 5
 abbrev pub judged_reset : Model → UnitState → ℕ → Answer

@@ -1,7 +1,6 @@
 -- What is due of each call of a frame done as jobs, 9 aside. An open has its turn with no frame open, every other call with one (R5.4, R5.5).
 use Rattle.std.specs.Prelude.{ℕ, true, not, ◌&&◌, List, ltb, Float, length}
-use Rattle.samples.specs.declared.Answer.{Answer}
-use Rattle.samples.specs.Answers.{or_else}
+use Rattle.samples.specs.Answers.{Answer, or_else}
 use Rattle.bands.specs.declared.Times.{Times}
 use Rattle.unit.specs.UnitState.{UnitState}
 use Rattle.unit.specs.Layout.{Model, mix_mark, line_mark, output_mark}

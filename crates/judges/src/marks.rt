@@ -3,50 +3,40 @@ ghost use Rattle.std.specs.Prelude.{◌≡◌, false, ◌+◌, ◌≤◌, get_or
 ghost use Rattle.unit.specs.Layout.{wall, jobs_len, line_mark};
 ghost use Rattle.judges.specs.Marks.{all_done};
 
-use samples::and;
 use unit::{JOBS, LINE_MARK, LINES};
 
 // Whether mark k is set. There is one for each job.
-pub(crate) fn marked(marks: [bool; JOBS], k: usize) -> bool
-    ensures { result ≡ get_or marks k false }
+pub(crate) fn marked(marks: &[bool; JOBS], k: usize) -> bool
+    ensures { result ≡ get_or marks.now k false }
 {
-    if k < JOBS { marks[k] } else { false }
+    marks.get(k).copied().unwrap_or(false)
 }
 
 // Whether the mark of a line's job is set, which stands after those of the reads and the mix.
-pub(crate) fn line_marked(marks: [bool; JOBS], line: usize) -> bool
-    ensures { result ≡ get_or marks (line_mark wall line) false }
+pub(crate) fn line_marked(marks: &[bool; JOBS], line: usize) -> bool
+    ensures { result ≡ get_or marks.now (line_mark wall line) false }
 {
-    if line <= LINES {
-        marks[LINE_MARK + line]
-    } else {
-        false
-    }
+    line <= LINES && marks[LINE_MARK + line]
 }
 
 // Whether every job is done.
-pub(crate) fn all_done(marks: [bool; JOBS]) -> bool
-    ensures { result ≡ all_done marks }
+pub(crate) fn all_done(marks: &[bool; JOBS]) -> bool
+    ensures { result ≡ all_done marks.now }
 {
     first_done(marks, JOBS)
 }
 
 // Whether every line is read.
-pub(crate) fn all_read(marks: [bool; JOBS]) -> bool
-    ensures { result ≡ all_done (take wall.lines marks) }
+pub(crate) fn all_read(marks: &[bool; JOBS]) -> bool
+    ensures { result ≡ all_done (take wall.lines marks.now) }
 {
     first_done(marks, LINES)
 }
 
 // Whether the first n marks are set.
-fn first_done(marks: [bool; JOBS], n: usize) -> bool
+fn first_done(marks: &[bool; JOBS], n: usize) -> bool
     requires { n ≤ jobs_len wall }
-    ensures { result ≡ all_done (take n marks) }
+    ensures { result ≡ all_done (take n marks.now) }
 {
-    let mut ok = true;
-    for i in 0..n {
-        let m = marks[i];
-        ok = and(ok, m);
-    }
-    ok
+    marks[..n].iter().all(|m| *m)
 }

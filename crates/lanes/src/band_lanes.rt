@@ -7,6 +7,8 @@ use crate::lanes::{Lanes, lane, pack, step};
 use iir::Bands;
 
 // The bands of four lines.
+//
+// Kept (6): four fields and no array. `by_band` names each line outright, and `b[0]` to `b[3]` would be the same four names.
 #[derive(Clone, Copy)]
 pub struct FourBands {
     pub b0: Bands,
@@ -24,17 +26,14 @@ pub struct BandLanes {
 }
 
 // The bands of four lines, band by band (R1.15).
+#[tactic(auto, unfolding(crate::specs::BandLanes::by_band))]
 pub fn by_band(b: FourBands) -> BandLanes
     ensures { result ≡ by_band b }
 {
-    let f = b.b0;
-    let g = b.b1;
-    let h = b.b2;
-    let k = b.b3;
     BandLanes {
-        l0: pack(f.f0, g.f0, h.f0, k.f0),
-        l1: pack(f.f1, g.f1, h.f1, k.f1),
-        l2: pack(f.f2, g.f2, h.f2, k.f2),
+        l0: pack(b.b0.f0, b.b1.f0, b.b2.f0, b.b3.f0),
+        l1: pack(b.b0.f1, b.b1.f1, b.b2.f1, b.b3.f1),
+        l2: pack(b.b0.f2, b.b1.f2, b.b2.f2, b.b3.f2),
     }
 }
 
@@ -50,6 +49,7 @@ pub fn bands_at(k: usize, g: BandLanes) -> Bands
 }
 
 // One sample of each line through the bands (R3.25).
+#[tactic(auto, unfolding(crate::specs::BandLanes::step_bands))]
 pub fn step_bands(g: BandLanes, x: Four) -> BandLanes
     ensures { result ≡ step_bands g x }
 {

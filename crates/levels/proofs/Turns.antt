@@ -1,13 +1,10 @@
--- One turn of the loop over the channels, and that their number is a float. Assumes nothing.
+-- One turn of the loop over the channels. Assumes nothing.
 use mathlib.Core.Path.{◌≡◌}
 use mathlib.Core.List.{List}
-use Prim.Native.Nat.{ℕ, ◌+◌, ◌-◌, ◌≤◌, ◌<◌}
-use native.Mathlib.Omega.{arith}
-use lib.Dec.{T, le→leb}
-use lib.IntN.{pos}
+use Prim.Native.Nat.{ℕ, ◌+◌, ◌-◌, ◌<◌}
 use lib.ListN.{take, drop}
 use lib.Seq.{drop-drop}
-use lib.Ieee.{Float, binary32, in_float}
+use lib.Ieee.{Float}
 use Rattle.samples.proofs.Turns.{more}
 use Rattle.levels.specs.Levels.{buffers_mixed, channels_summed}
 
@@ -15,8 +12,3 @@ use Rattle.levels.specs.Levels.{buffers_mixed, channels_summed}
 pub summed_more : (samples at : ℕ) (buffer row : List Float) (n i : ℕ) → i < n
     → channels_summed samples (n - i) row (drop at buffer) ≡ channels_summed samples (n - (i + 1)) (buffers_mixed (take samples (drop at buffer)) row) (drop (at + samples) buffer)
 summed_more samples at buffer row n i h = rw (more n i h, ← drop-drop samples at buffer)
-
--- so few channels are a float exactly
-pub few_exact : (n : ℕ) → n ≤ 16 → T (in_float binary32 (pos n))
-unfolding in_float
-few_exact n h = le→leb n 16777216 (omega arith)

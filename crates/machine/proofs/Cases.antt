@@ -1,11 +1,12 @@
 -- How a whole call and a close end, by cases: refused, failed, or kept. Assumes nothing.
+use Rattle.std.specs.Prelude.{Err}
 use mathlib.Core.Path.{◌≡◌, refl}
 use mathlib.Core.Bool.{Bool, true, false, cond}
 use mathlib.Core.List.{List}
 use lib.Ieee.{Float}
 use lib.ListN.{length}
-use Rattle.samples.specs.declared.Answer.TheVariants.{Accepted, NotFinite}
-use Rattle.samples.specs.Answers.{accepted}
+use Rattle.samples.specs.declared.Refusal.TheVariants.{NotFinite}
+use Rattle.samples.specs.Answers.{Accepted, accepted}
 use Rattle.samples.proofs.Laws.{accept_either}
 use Rattle.unit.specs.Layout.{Model}
 use Rattle.judges.specs.Turns.{judged_close}
@@ -25,7 +26,7 @@ module _ (m : Model) (w : Memory) (output : List Float) (P : Ending → Type 0) 
       → let due = whole_due m w.unit p (length w.store) (length w.work) (length output) in
       let r = frame_for m w.unit p w.store in
       (due ≡ Accepted → frame_finite r ≡ true → P (kept m w r (count_for w.unit p)))
-      → (due ≡ Accepted → frame_finite r ≡ false → P (refused NotFinite (wiped w) output))
+      → (due ≡ Accepted → frame_finite r ≡ false → P (refused (Err NotFinite) (wiped w) output))
       → (accepted due ≡ false → P (refused due w output))
       → P (at_once m w p output)
   unfolding played
@@ -37,7 +38,7 @@ module _ (m : Model) (w : Memory) (output : List Float) (P : Ending → Type 0) 
       let due = judged_close m w.unit (length w.store) (length w.work) (length output) in
       let r = rows_of m.lines w.unit.settings.frame w.work in
       (due ≡ Accepted → rows_finite w.unit.filters r ≡ true → P (kept_rows m w r))
-      → (due ≡ Accepted → rows_finite w.unit.filters r ≡ false → P (refused NotFinite (memory_shut m w) output))
+      → (due ≡ Accepted → rows_finite w.unit.filters r ≡ false → P (refused (Err NotFinite) (memory_shut m w) output))
       → (accepted due ≡ false → P (refused due w output))
       → P (closed m w output)
   unfolding ended

@@ -1,15 +1,15 @@
 -- From what a call's code gives and leaves to how the call ends, refused and let by. Assumes nothing.
-use mathlib.Core.Path.{◌≡◌, refl, sym, ap, ◌∙◌}
-use mathlib.Core.Bool.{true, false, cond}
+use Rattle.std.specs.Prelude.{Err}
+use mathlib.Core.Path.{◌≡◌, sym, ◌∙◌}
+use mathlib.Core.Bool.{true, cond}
 use mathlib.Core.List.{List}
 use lib.Ieee.{Float}
 use lib.IntN.{ℤ}
 use lib.ListN.{length, replicate}
-use Rattle.samples.specs.declared.Answer.{Answer}
-use Rattle.samples.specs.declared.Answer.TheVariants.{Accepted, NotFinite}
-use Rattle.samples.specs.Answers.{accept, accepted}
+use Rattle.samples.specs.declared.Refusal.TheVariants.{NotFinite}
+use Rattle.samples.specs.Answers.{Answer, Accepted, accept, accepted}
 use Rattle.samples.specs.Binary32.{+0}
-use Rattle.samples.proofs.Laws.{accept_no, accept_yes}
+use Rattle.samples.proofs.Laws.{accept_yes}
 use Rattle.audio_buffer.specs.declared.AudioEffectState.TheVariants.{TailComplete}
 use Rattle.audio_buffer.specs.Verdict.{verdict_of}
 use Rattle.unit.specs.declared.Outcome.{Outcome}
@@ -27,11 +27,6 @@ Ends e x store work output = (x ≡ outcome_of e) × ((store ≡ e.memory.store)
 
 -- ---- a call that is lent an output
 
-pub ends_refused : (due a : Answer) (new : Ending) (w : Memory) (output : List Float) (x : Outcome) → accepted due ≡ false → a ≡ due
-    → x ≡ outcome a w.unit TailComplete → Ends (accept due new (refused due w output)) x w.store w.work output
-ends_refused due a new w output x h e q =
-    rw (accept_no due new (refused due w output) h) (q ∙ ap (λ (b : Answer). outcome b w.unit TailComplete) e, (refl, (refl, refl)))
-
 pub ends_let_by : (due : Answer) (new old : Ending) (x : Outcome) (store work output : List Float) → accepted due ≡ true → Ends new x store work output
     → Ends (accept due new old) x store work output
 ends_let_by due new old x store work output h p = rw (accept_yes due new old h) p
@@ -39,11 +34,6 @@ ends_let_by due new old x store work output h p = rw (accept_yes due new old h) 
 -- ---- a call that leaves no tail to wait for
 
 module _ (due a : Answer) (new old : Memory) (x : Outcome) (e : a ≡ due) where
-  pub quiet_refused : accepted due ≡ false → x ≡ outcome a old.unit TailComplete → (x ≡ outcome_of (quietly due new old)) × (old ≡ (quietly due new old).memory)
-  quiet_refused h q =
-      let m = sym (accept_no due new old h) in
-      (q ∙ (λ i. outcome (e i) (m i).unit TailComplete), m)
-
   pub quiet_let_by : accepted due ≡ true → x ≡ outcome a new.unit TailComplete → (x ≡ outcome_of (quietly due new old)) × (new ≡ (quietly due new old).memory)
   quiet_let_by h q =
       let m = sym (accept_yes due new old h) in
@@ -63,4 +53,4 @@ played_as_long m w r count output work e =
       memory = record { unit = moved_on m w.unit (new_filters r) count; store = settled m.lines w.unit.settings.frame (unit_rings m w.unit) r.lines.put r.output.rings w.store; work = replicate (e i) +0 };
       output = r.output.out;
     })
-    (refused NotFinite (record { unit = w.unit; store = w.store; work = replicate (e i) +0 }) output)
+    (refused (Err NotFinite) (record { unit = w.unit; store = w.store; work = replicate (e i) +0 }) output)

@@ -1,6 +1,6 @@
 -- All calls that are given a state, as one.
 use Rattle.std.specs.Prelude.{List, Float}
-use Rattle.samples.specs.declared.Answer.{Answer}
+use Rattle.samples.specs.Answers.{Answer}
 use Rattle.unit.specs.Layout.{Model}
 use Rattle.machine.specs.Ending.{Memory, Ending}
 use Rattle.bands.specs.declared.Times.{Times}

@@ -1,7 +1,6 @@
 -- A unit with its memory, and how a call on it ends.
 use Rattle.std.specs.Prelude.{List, [], Float, length, replicate}
-use Rattle.samples.specs.declared.Answer.{Answer}
-use Rattle.samples.specs.Answers.{accept}
+use Rattle.samples.specs.Answers.{Answer, accept}
 use Rattle.samples.specs.Binary32.{+0}
 use Rattle.audio_buffer.specs.declared.AudioEffectState.{AudioEffectState}
 use Rattle.audio_buffer.specs.declared.AudioEffectState.TheVariants.{TailComplete}

@@ -1,8 +1,7 @@
 -- A frame done as jobs (R5): opened, its jobs, closed or abandoned.
-use Rattle.std.specs.Prelude.{ℕ, ◌*◌, Bool, true, false, cond, List, Float, ℤ, length, get_or, set, replicate}
-use Rattle.samples.specs.declared.Answer.{Answer}
-use Rattle.samples.specs.declared.Answer.TheVariants.{Accepted, NotFinite}
-use Rattle.samples.specs.Answers.{accept}
+use Rattle.std.specs.Prelude.{ℕ, ◌*◌, Bool, true, false, cond, List, Float, ℤ, length, get_or, set, replicate, Err}
+use Rattle.samples.specs.declared.Refusal.TheVariants.{NotFinite}
+use Rattle.samples.specs.Answers.{Answer, Accepted, accept}
 use Rattle.samples.specs.Binary32.{+0}
 use Rattle.samples.specs.Lists.{set_row}
 use Rattle.audio_buffer.specs.Verdict.{verdict_of}
@@ -159,7 +158,7 @@ kept_rows m w r =
 
 -- R5.21: what they come to at the close, 9 unless all of them are finite
 unfoldable pub ended : Model → Memory → Rows → List Float → Ending
-ended m w r output = cond (rows_finite w.unit.filters r) (kept_rows m w r) (refused NotFinite (memory_shut m w) output)
+ended m w r output = cond (rows_finite w.unit.filters r) (kept_rows m w r) (refused (Err NotFinite) (memory_shut m w) output)
 
 abbrev pub closed : Model → Memory → List Float → Ending
 closed m w output =

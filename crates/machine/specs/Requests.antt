@@ -1,7 +1,6 @@
 -- Requests: a call on the unit, lent the unit's own memory or any other.
 use Rattle.std.specs.Prelude.{ℕ, Bool, ◌&&◌, List, [], ◌∷◌, leb, eqb, Float}
-use Rattle.samples.specs.declared.Answer.{Answer}
-use Rattle.samples.specs.Answers.{number_of}
+use Rattle.samples.specs.Answers.{Answer, number_of}
 use Rattle.unit.specs.Layout.{Model}
 use Rattle.machine.specs.Ending.{Memory}
 use Rattle.machine.specs.Whole.{begun}

@@ -1,8 +1,6 @@
 -- Several frames at once (R10): applies made singly, with one set of times and coefficients.
 use Rattle.std.specs.Prelude.{ℕ, zero, suc, ◌/◌, List, ◌++◌, Float, pos, length, take, drop}
-use Rattle.samples.specs.declared.Answer.{Answer}
-use Rattle.samples.specs.declared.Answer.TheVariants.{Accepted}
-use Rattle.samples.specs.Answers.{accept}
+use Rattle.samples.specs.Answers.{Answer, Accepted, accept}
 use Rattle.audio_buffer.specs.Verdict.{verdict_of}
 use Rattle.bands.specs.declared.Times.{Times}
 use Rattle.unit.specs.declared.FramesOutcome.{FramesOutcome}

@@ -1,8 +1,7 @@
 -- Fresh, reset, and a whole frame (R4).
-use Rattle.std.specs.Prelude.{ℕ, Bool, true, false, cond, List, [], Float, ℤ, pos, length, replicate}
-use Rattle.samples.specs.declared.Answer.{Answer}
-use Rattle.samples.specs.declared.Answer.TheVariants.{Accepted, NotFinite}
-use Rattle.samples.specs.Answers.{accept}
+use Rattle.std.specs.Prelude.{ℕ, Bool, true, false, cond, List, [], Float, ℤ, pos, length, replicate, Err}
+use Rattle.samples.specs.declared.Refusal.TheVariants.{NotFinite}
+use Rattle.samples.specs.Answers.{Answer, Accepted, accept}
 use Rattle.samples.specs.Binary32.{+0}
 use Rattle.audio_buffer.specs.Verdict.{verdict_of}
 use Rattle.iir.specs.declared.Filter.{Filter}
@@ -98,7 +97,7 @@ wiped w = record { unit = w.unit; store = w.store; work = cleared w.work }
 
 -- R4.14, R4.15: what a frame r comes to that nothing else refuses, 9 unless all of it is finite
 unfoldable pub played : Model → Memory → Frame → ℤ → List Float → Ending
-played m w r count output = cond (frame_finite r) (kept m w r count) (refused NotFinite (wiped w) output)
+played m w r count output = cond (frame_finite r) (kept m w r count) (refused (Err NotFinite) (wiped w) output)
 
 abbrev pub at_once : Model → Memory → Play → List Float → Ending
 at_once m w p output =

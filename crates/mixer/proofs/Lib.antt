@@ -1,3 +1,2 @@
-pub mod Passes
 pub mod Signs
-pub mod Twos
+pub mod Passes

@@ -1,32 +1,32 @@
 // The mix of the rows of all lines, by the signs of a Hadamard matrix.
 //
-// Its contracts cite `specs/`: what a pass over two rows makes of them, and what the passes come to.
+// Its contracts cite `specs/`: what a pass over a row makes of it, and what the passes come to.
+//
+// Kept (5): that rows are n of f samples is a fact of slices that each worker is lent apart. A struct of the slices would be taken apart in each worker again.
 #![tactic(auto)]
 
-ghost use Rattle.std.specs.Prelude.{◌≡◌, ◌+◌, ◌*◌, ◌/◌, ◌%◌, ◌<◌, ◌≤◌, length};
-ghost use Rattle.samples.specs.Binary32.{◌⊕◌, ◌⊖◌, ◌⊗◌};
+ghost use Rattle.std.specs.Prelude.{◌≡◌, ◌++◌, ◌+◌, ◌*◌, ◌/◌, ◌%◌, ◌<◌, ◌≤◌, not, map, length};
+ghost use Rattle.samples.specs.Binary32.{◌⊗◌};
 ghost use Rattle.samples.specs.Answers.{accept};
-ghost use Rattle.samples.specs.Lists.{over};
-ghost use Rattle.hadamard.specs.Mix.{plus_minus};
-ghost use Rattle.hadamard.specs.Rows.{mixed_rows, judged_rows, rows_mixed};
-ghost use Rattle.mixer.specs.Passes.{row_laid, pass, crossed, summed, summed_two, row_sum, mixed_at};
+ghost use Rattle.hadamard.specs.Mix.{each};
+ghost use Rattle.hadamard.specs.Rows.{mixed_row, mixed_rows, judged_rows, rows_mixed};
+ghost use Rattle.mixer.specs.Passes.{signed, signed_twice, row_sum};
 
 use hadamard::{minus, plus_minus};
-use samples::{Answer, is_accepted, need};
+use samples::{Answer, Refusal, need};
 
 // Mixes the rows of all lines, which `rows` begins with, into as many rows after them (R3.30, R3.31).
+#[tactic(auto, using(hadamard::proofs::Laws::judged_is))]
 pub fn mix_rows(lines: usize, factor: f32, rows: &mut [f32]) -> Answer
     ensures value { result ≡ judged_rows lines (length rows.old) }
     ensures rows_after { rows.new ≡ accept result (rows_mixed lines factor rows.old) rows.old }
 {
     let f = row_length(lines, rows.len());
     let read = lines * f;
-    let ok = read + read == rows.len();
-    let a = need(ok, Answer::BadLength, Answer::Accepted);
-    if is_accepted(a) {
-        mix_all(rows, lines, f, factor);
-    }
-    a
+    need(read + read == rows.len(), Refusal::BadLength)?;
+    let (reads, mixed) = rows.split_at_mut(read);
+    mix_all(reads, lines, f, factor, mixed);
+    Ok(())
 }
 
 // The length of a row, where two rows for each line take `len` samples.
@@ -36,167 +36,136 @@ fn row_length(lines: usize, len: usize) -> usize
     if lines == 0 { 0 } else { len / 2 / lines }
 }
 
-// Mixes the rows of n lines, which w begins with, into the n rows after them, times k: two rows at a time where n is even.
-fn mix_all(w: &mut [f32], n: usize, f: usize, k: f32)
-    requires { n * f + n * f ≤ length w.old }
-    ensures { w.new ≡ over (n * f) (mixed_rows n f k w.old) w.old }
+// Mixes n rows of f samples into n others, times k: two rows at a time where n is even.
+fn mix_all(reads: &[f32], n: usize, f: usize, k: f32, mixed: &mut [f32])
+    requires { (length reads.now ≡ n * f) × (length mixed.old ≡ n * f) }
+    ensures { mixed.new ≡ mixed_rows n f k reads.now }
 {
     if n % 2 == 0 {
-        mix_twos(w, n, f, k);
+        mix_twos(reads, n, f, k, mixed);
     } else {
-        mix_ones(w, n, f, k);
+        mix_ones(reads, n, f, k, mixed);
     }
 }
 
 // Mixes as `mix_all` does, one row after the other.
-fn mix_ones(w: &mut [f32], n: usize, f: usize, k: f32)
-    requires { n * f + n * f ≤ length w.old }
-    ensures { w.new ≡ over (n * f) (mixed_rows n f k w.old) w.old }
+// Kept (3): a row's signs go by its index, and std says nothing of what `chunks_mut` leaves.
+fn mix_ones(reads: &[f32], n: usize, f: usize, k: f32, mixed: &mut [f32])
+    requires { (length reads.now ≡ n * f) × (length mixed.old ≡ n * f) }
+    ensures { mixed.new ≡ mixed_rows n f k reads.now }
 {
-    let mut d = n * f;
-    let mut r = 0usize;
-    while r < n {
-        mix_row(w, n, f, k, r, d);
-        d += f;
-        r += 1;
+    for r in 0..n {
+        let at = r * f;
+        mix_row(reads, n, k, r, &mut mixed[at..at + f]);
     }
 }
 
 // Mixes as `mix_all` does, two rows at a time.
-fn mix_twos(w: &mut [f32], n: usize, f: usize, k: f32)
-    requires { (n % 2 ≡ 0) × (n * f + n * f ≤ length w.old) }
-    ensures { w.new ≡ over (n * f) (mixed_rows n f k w.old) w.old }
+// Kept (3): as in `mix_ones`.
+fn mix_twos(reads: &[f32], n: usize, f: usize, k: f32, mixed: &mut [f32])
+    requires { (n % 2 ≡ 0) × (length reads.now ≡ n * f) × (length mixed.old ≡ n * f) }
+    ensures { mixed.new ≡ mixed_rows n f k reads.now }
 {
-    let mut d = n * f;
-    let mut r = 0usize;
-    while r < n {
-        let e = d + f;
-        mix_two(w, n, f, k, r, d, e);
-        d = e + f;
-        r += 2;
+    for i in 0..n / 2 {
+        let at = 2 * i * f;
+        mix_two(reads, n, f, k, 2 * i, &mut mixed[at..at + f + f]);
     }
 }
 
-// Mixes the rows of n lines into row r of the mix, at d, times k.
-fn mix_row(w: &mut [f32], n: usize, f: usize, k: f32, r: usize, d: usize)
-    requires { (r < n) × (n * f ≤ d) × (d + f ≤ length w.old) }
-    ensures { w.new ≡ mixed_at n f k r d w.old }
+// Mixes n rows into row r of the mix, times k.
+fn mix_row(reads: &[f32], n: usize, k: f32, r: usize, row: &mut [f32])
+    requires { (0 < n) × (length reads.now ≡ n * length row.old) }
+    ensures { row.new ≡ mixed_row n (length row.old) k reads.now r }
 {
-    sum_row(w, n, f, r, d);
-    scale_row(w, d, f, k);
+    sum_row(reads, n, r, row);
+    scale_row(k, row);
 }
 
-// Mixes the rows of n lines into row r of the mix, at d, and the row after it, at e, times k. r and n are even.
-fn mix_two(w: &mut [f32], n: usize, f: usize, k: f32, r: usize, d: usize, e: usize)
-    requires { (n % 2 ≡ 0) × (r % 2 ≡ 0) × (r < n) × (n * f ≤ d) × (d + f ≤ e) × (e + f ≤ length w.old) }
-    ensures { w.new ≡ mixed_at n f k (r + 1) e (mixed_at n f k r d w.old) }
+// Mixes n rows of f samples into row r of the mix and the row after it, times k. n and r are even.
+fn mix_two(reads: &[f32], n: usize, f: usize, k: f32, r: usize, two: &mut [f32])
+    requires { (n % 2 ≡ 0) × (r % 2 ≡ 0) × (r < n) × (length reads.now ≡ n * f) × (length two.old ≡ f + f) }
+    ensures { two.new ≡ mixed_row n f k reads.now r ++ mixed_row n f k reads.now (r + 1) }
 {
-    sum_row(w, 2, f, r, d);
-    sum_row(w, 2, f, r + 1, e);
-    cross_rows(w, n - 2, f, r, d, e);
-    scale_row(w, d, f, k);
-    scale_row(w, e, f, k);
+    let (low, high) = two.split_at_mut(f);
+    sum_two(reads, n, r, low, high);
+    scale_row(k, two);
 }
 
-// Sums the first n rows into the row at d, by the signs of row r.
-fn sum_row(w: &mut [f32], n: usize, f: usize, r: usize, d: usize)
-    requires { (0 < n) × (n * f ≤ d) × (d + f ≤ length w.old) }
-    ensures { w.new ≡ row_laid d f (row_sum r n f w.old) w.old }
+// Sums the first n rows by the signs of row r.
+// Kept (3): no plainer. A row's sign goes by its index, and `chunks` takes no row of no samples.
+fn sum_row(reads: &[f32], n: usize, r: usize, sum: &mut [f32])
+    requires { (0 < n) × (n * length sum.old ≤ length reads.now) }
+    ensures { sum.new ≡ each (length sum.old) (row_sum r n (length sum.old) reads.now) }
 {
-    copy_row(w, d, 0, f);
-    sum_rows(w, n - 1, f, r, d);
-}
-
-// Adds the rows 2 to `more` + 1, two a pass, to the row at d by the signs of row r, and to the row at e by those of row r + 1.
-fn cross_rows(w: &mut [f32], more: usize, f: usize, r: usize, d: usize, e: usize)
-    requires { (more % 2 ≡ 0) × (r % 2 ≡ 0) × (f + f + more * f ≤ d) × (d + f ≤ e) × (e + f ≤ length w.old) }
-    ensures { w.new ≡ summed_two r d e f more w.old }
-{
-    let mut s = f;
-    let mut c = 0usize;
-    while c < more {
-        let a = s + f;
-        s = a + f;
-        c += 2;
-        cross_row(w, minus(r, c), d, e, a, s, f);
+    let f = sum.len();
+    sum.copy_from_slice(&reads[..f]);
+    for c in 1..n {
+        let at = c * f;
+        plus_minus_row(minus(r, c), &reads[at..at + f], sum);
     }
 }
 
-// Adds the rows at a and b to the row at d, both with a minus or without, and to the row at e, that at b with the other sign.
-fn cross_row(w: &mut [f32], m: bool, d: usize, e: usize, a: usize, b: usize, f: usize)
-    requires { (a + f ≤ d) × (b + f ≤ d) × (d + f ≤ e) × (e + f ≤ length w.old) }
-    ensures { w.new ≡ crossed m d e a b f w.old }
+// Sums the first n rows by the signs of row r, and by those of the row after it, two rows a pass. n and r are even.
+// Kept (3): as in `sum_row`.
+fn sum_two(reads: &[f32], n: usize, r: usize, low: &mut [f32], high: &mut [f32])
+    requires { (n % 2 ≡ 0) × (r % 2 ≡ 0) × (r < n) × (n * length low.old ≤ length reads.now) × (length high.old ≡ length low.old) }
+    ensures low_after { low.new ≡ each (length low.old) (row_sum r n (length low.old) reads.now) }
+    ensures high_after { high.new ≡ each (length low.old) (row_sum (r + 1) n (length low.old) reads.now) }
 {
-    for t in 0..f {
-        let x = w[a + t];
-        let y = w[b + t];
-        w[d + t] = plus_minus(m, plus_minus(m, w[d + t], x), y);
-        w[e + t] = plus_minus(!m, plus_minus(m, w[e + t], x), y);
+    let f = low.len();
+    start_two(minus(r, 1), &reads[..f], &reads[f..f + f], low, high);
+    for i in 1..n / 2 {
+        let a = 2 * i * f;
+        let b = a + f;
+        cross_row(minus(r, 2 * i), &reads[a..b], &reads[b..b + f], low, high);
     }
 }
 
-// Adds the rows 1 to `last` to the row at d, by the signs of row r.
-fn sum_rows(w: &mut [f32], last: usize, f: usize, r: usize, d: usize)
-    requires { (last * f + f ≤ d) × (d + f ≤ length w.old) }
-    ensures { w.new ≡ row_laid d f (summed r 1 f d f last w.old) w.old }
+// Adds one row to another, into two sums: into the first with a minus or without, into the second with the other sign.
+// Kept (3): tried with `zip`, and the proof did not close: after it the samples of a row that is written are not known.
+fn start_two(m: bool, xs: &[f32], ys: &[f32], low: &mut [f32], high: &mut [f32])
+    requires { (length xs.now ≡ length low.old) × (length ys.now ≡ length low.old) × (length high.old ≡ length low.old) }
+    ensures low_after { low.new ≡ signed m ys.now xs.now }
+    ensures high_after { high.new ≡ signed (not m) ys.now xs.now }
 {
-    let mut s = 0usize;
-    let mut c = 0usize;
-    while c < last {
-        s += f;
-        c += 1;
-        plus_minus_row(w, minus(r, c), d, s, f);
+    for t in 0..low.len() {
+        let (x, y) = (xs[t], ys[t]);
+        low[t] = plus_minus(m, x, y);
+        high[t] = plus_minus(!m, x, y);
     }
 }
 
-// Adds the row at s to the row at d, with a minus or without.
-fn plus_minus_row(w: &mut [f32], m: bool, d: usize, s: usize, f: usize)
-    requires { (s + f ≤ d) × (d + f ≤ length w.old) }
-    ensures { w.new ≡ pass (plus_minus m) d s f w.old }
+// Adds two rows to two sums: to the first both with a minus or without, to the second the row `ys` with the other sign.
+// Kept (3): tried with `zip`, and the proof did not close: after it the samples of a row that is written are not known.
+fn cross_row(m: bool, xs: &[f32], ys: &[f32], low: &mut [f32], high: &mut [f32])
+    requires { (length xs.now ≡ length low.old) × (length ys.now ≡ length low.old) × (length high.old ≡ length low.old) }
+    ensures low_after { low.new ≡ signed_twice m m xs.now ys.now low.old }
+    ensures high_after { high.new ≡ signed_twice m (not m) xs.now ys.now high.old }
 {
-    if m {
-        subtract_row(w, d, s, f);
-    } else {
-        add_row(w, d, s, f);
+    for t in 0..low.len() {
+        let x = xs[t];
+        let y = ys[t];
+        low[t] = plus_minus(m, plus_minus(m, low[t], x), y);
+        high[t] = plus_minus(!m, plus_minus(m, high[t], x), y);
     }
 }
 
-// Copies the row at s to the row at d.
-fn copy_row(w: &mut [f32], d: usize, s: usize, f: usize)
-    requires { (s + f ≤ d) × (d + f ≤ length w.old) }
-    ensures { w.new ≡ pass (λ x y. y) d s f w.old }
+// Adds a row to a sum, with a minus or without.
+// Kept (3): tried with `zip`, and the proof did not close: after it the samples of a row that is written are not known.
+fn plus_minus_row(m: bool, xs: &[f32], sum: &mut [f32])
+    requires { length xs.now ≡ length sum.old }
+    ensures { sum.new ≡ signed m xs.now sum.old }
 {
-    for t in 0..f {
-        w[d + t] = w[s + t];
+    for (t, s) in sum.iter_mut().enumerate() {
+        *s = plus_minus(m, *s, xs[t]);
     }
 }
 
-// Adds the row at s to the row at d.
-fn add_row(w: &mut [f32], d: usize, s: usize, f: usize)
-    requires { (s + f ≤ d) × (d + f ≤ length w.old) }
-    ensures { w.new ≡ pass ◌⊕◌ d s f w.old }
+// Multiplies a row by k.
+fn scale_row(k: f32, row: &mut [f32])
+    ensures { row.new ≡ map (λ x. x ⊗ k) row.old }
 {
-    for t in 0..f {
-        w[d + t] = w[d + t] + w[s + t];
-    }
-}
-
-// Takes the row at s from the row at d.
-fn subtract_row(w: &mut [f32], d: usize, s: usize, f: usize)
-    requires { (s + f ≤ d) × (d + f ≤ length w.old) }
-    ensures { w.new ≡ pass ◌⊖◌ d s f w.old }
-{
-    for t in 0..f {
-        w[d + t] = w[d + t] - w[s + t];
-    }
-}
-
-// Multiplies the row at d by k.
-fn scale_row(w: &mut [f32], d: usize, f: usize, k: f32)
-    requires { d + f ≤ length w.old }
-    ensures { w.new ≡ pass (λ x y. x ⊗ k) d d f w.old }
-{
-    for t in 0..f {
-        w[d + t] = w[d + t] * k;
+    for x in row.iter_mut() {
+        *x *= k;
     }
 }

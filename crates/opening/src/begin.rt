@@ -31,9 +31,8 @@ pub(crate) fn begin_work(s: State, store: &[f32], work: &mut [f32])
     requires { WorkFits wall s.frame (length work.old) × (length store.now ≡ store_len wall (lengths wall (of_state s))) }
     ensures { work.new ≡ silent_laid (of_state s) store.now }
 {
-    let f = s.frame;
     clear(work);
-    let p = work_places(LINES, f);
+    let p = work_places(LINES, s.frame);
     let rings = p.rings;
     let a = store.len() - (work.len() - rings);
     stages::copy(&store[a..], &mut work[rings..]);

@@ -15,7 +15,6 @@ use crate::begin::{begin_work, opened};
 use bands::{Times, fallen, tail_count};
 use judges::{judge_open_apply, judge_open_tail};
 use reverb::filters_of;
-use samples::is_accepted;
 use unit::{Outcome, State, quiet};
 
 // Begins a frame of input, to be done as jobs (R2.24, R5.6 to R5.8).
@@ -30,17 +29,14 @@ pub fn open_apply(
     ensures value { result ≡ outcome_of (opened wall (lend s store.now work.old) (Play.apply t coefficients.now input.now)) }
     ensures work_after { work.new ≡ (opened wall (lend s store.now work.old) (Play.apply t coefficients.now input.now)).memory.work }
 {
-    let answer = judge_open_apply(s, t, coefficients, input, store.len(), work.len());
-    if !is_accepted(answer) {
-        return quiet(answer, s);
+    if let Err(refusal) = judge_open_apply(s, t, coefficients, input, store.len(), work.len()) {
+        return quiet(Err(refusal), s);
     }
-    let rate = s.rate;
-    let f = s.frame;
-    let tail = tail_count(t, rate, f);
+    let count = tail_count(t, s.rate, s.frame).count;
     let fs = filters_of(coefficients);
     begin_work(s, store, work);
-    stages::copy(input, &mut work[0..f]);
-    quiet(answer, opened(s, false, fs, tail.count))
+    stages::copy(input, &mut work[0..s.frame]);
+    quiet(Ok(()), opened(s, false, fs, count))
 }
 
 // Begins a frame after the input has ended, to be done as jobs (R2.25, R5.6 to R5.8).
@@ -48,12 +44,9 @@ pub fn open_tail(s: State, store: &[f32], work: &mut [f32]) -> Outcome
     ensures value { result ≡ outcome_of (opened wall (lend s store.now work.old) Play.tail) }
     ensures work_after { work.new ≡ (opened wall (lend s store.now work.old) Play.tail).memory.work }
 {
-    let answer = judge_open_tail(s, store.len(), work.len());
-    if !is_accepted(answer) {
-        return quiet(answer, s);
+    if let Err(refusal) = judge_open_tail(s, store.len(), work.len()) {
+        return quiet(Err(refusal), s);
     }
-    let fs = s.filters;
-    let count = s.count;
     begin_work(s, store, work);
-    quiet(answer, opened(s, true, fs, fallen(count)))
+    quiet(Ok(()), opened(s, true, s.filters, fallen(s.count)))
 }

@@ -13,8 +13,8 @@ use Rattle.samples.specs.Lists.{over}
 use Rattle.samples.proofs.Turns.{middle}
 use Rattle.samples.proofs.Lists.{cut, part_long, last_part}
 use Rattle.delay.specs.Calls.{both}
-use Rattle.unit.specs.declared.AllpassRings.{AllpassRings}
 use Rattle.unit.specs.declared.layout.Places.{Places}
+use Rattle.unit.specs.Room.{AllpassRings}
 use Rattle.unit.specs.Layout.{total, stretch, places_of}
 use Rattle.iir.specs.declared.Filter.{Filter}
 use Rattle.iir.specs.Runs.{bands_out, bands_end}

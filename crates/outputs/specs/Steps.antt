@@ -2,9 +2,9 @@
 use Rattle.std.specs.Prelude.{ℕ, Bool, cond, List, Float, length}
 use Rattle.samples.specs.Lists.{over}
 use Rattle.iir.specs.declared.Filter.{Filter}
+use Rattle.unit.specs.Room.{AllpassRings}
 use Rattle.unit.specs.Layout.{filter_at}
 use Rattle.unit.specs.declared.Rings.{Rings}
-use Rattle.unit.specs.declared.AllpassRings.{AllpassRings}
 use Rattle.stages.specs.Frame.{OutputRow, output_row}
 use Rattle.rows.specs.Rows.{Rows, rows_of, laid}
 use Rattle.rows.specs.Fits.{output_fits}

@@ -1,6 +1,6 @@
 -- What private workers leave of the rows lent.
+use Rattle.unit.specs.Room.{AllpassRings}
 use Rattle.std.specs.Prelude.{ℕ, ◌/◌, List, ◌++◌, Float}
-use Rattle.unit.specs.declared.AllpassRings.{AllpassRings}
 use Rattle.allpass.specs.Passes.{pass_out, pass_end}
 use Rattle.stages.specs.Frame.{stage_at, allpass_of}
 

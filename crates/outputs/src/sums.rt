@@ -4,6 +4,7 @@ ghost use Rattle.samples.specs.Binary32.{◌⊘◌, +0};
 ghost use Rattle.stages.specs.Lines.{sum_rows};
 
 // Sums the n rows read, with which `rows` begin, into the output, with which they end.
+// Kept (3): each row is lent with all that lies behind it, so that the slices overlap, and `chunks_mut` lends none that do.
 pub(crate) fn sum_lines(n: usize, f: usize, rows: &mut [f32])
     requires { n * f + f ≤ length rows.old }
     ensures { rows.new ≡ take (length rows.old - f) rows.old ++ sum_rows f n (replicate f +0) (take (n * f) rows.old) }

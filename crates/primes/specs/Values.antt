@@ -1,10 +1,9 @@
 -- The delay values (R6.8 to R6.12, R6.16 to R6.21).
-use Rattle.std.specs.Prelude.{◌≡◌, ℕ, ◌+◌, ◌%◌, ◌≤◌, true, ◌&&◌, List, [], ◌∷◌, pos, ◌==◌, from_bits, nat_le, nat_lt, Float}
+use Rattle.std.specs.Prelude.{◌≡◌, ℕ, ◌+◌, ◌%◌, ◌≤◌, true, ◌&&◌, List, [], ◌∷◌, pos, ◌==◌, from_bits, nat_le, nat_lt, Float, Err}
 use Rattle.std.specs.Float.{binary32}
 use Rattle.std.specs.Float.Ieee.{of_int, to_unsigned}
-use Rattle.samples.specs.declared.Answer.{Answer}
-use Rattle.samples.specs.declared.Answer.TheVariants.{Accepted, BadSize, BadLength, BadIndex, BadTime}
-use Rattle.samples.specs.Answers.{need, accept}
+use Rattle.samples.specs.declared.Refusal.TheVariants.{BadSize, BadLength, BadIndex, BadTime}
+use Rattle.samples.specs.Answers.{Answer, Accepted, need, accept}
 use Rattle.samples.specs.Binary32.{◌⊗◌, ◌⊘◌}
 use Rattle.samples.specs.Sizes.{highest_rate, rate_ok}
 use Rattle.bands.specs.Times.{time_ok}
@@ -35,22 +34,22 @@ values_from least i (r ∷ rs) = value_from least r i ∷ values_from least (i +
 
 -- R2.16: 6 for a time; R6.16: 4 for an index
 abbrev pub judged_time : Float → Answer
-judged_time time = need (time_ok time) BadTime Accepted
+judged_time time = need (time_ok time) (Err BadTime) Accepted
 
 abbrev pub judged_index : ℕ → Answer
-judged_index index = need (nat_lt index primes_len) BadIndex Accepted
+judged_index index = need (nat_lt index primes_len) (Err BadIndex) Accepted
 
 -- R6.18: 4 for x, then for the index
 abbrev pub judged_power : ℕ → ℕ → Answer
-judged_power x index = need (nat_le x 200000) BadIndex (judged_index index)
+judged_power x index = need (nat_le x 200000) (Err BadIndex) (judged_index index)
 
 -- R6.17: 2, then 6; R6.19: 4 between them
 abbrev pub judged_min : Float → ℕ → Answer
-judged_min time rate = need (rate_ok rate) BadSize (judged_time time)
+judged_min time rate = need (rate_ok rate) (Err BadSize) (judged_time time)
 
 abbrev pub judged_value : Float → ℕ → ℕ → Answer
-judged_value time rate index = need (rate_ok rate) BadSize (need (nat_lt index primes_len) BadIndex (judged_time time))
+judged_value time rate index = need (rate_ok rate) (Err BadSize) (need (nat_lt index primes_len) (Err BadIndex) (judged_time time))
 
 -- R6.20: 2, then 3 unless both slices have one for each prime, then 6
 abbrev pub judged_values : Float → ℕ → ℕ → ℕ → Answer
-judged_values time rate randoms out = need (rate_ok rate) BadSize (need (randoms == primes_len && out == primes_len) BadLength (judged_time time))
+judged_values time rate randoms out = need (rate_ok rate) (Err BadSize) (need (randoms == primes_len && out == primes_len) (Err BadLength) (judged_time time))

@@ -5,16 +5,16 @@
 // with the answers of their calls (Values).
 #![tactic(auto)]
 
-ghost use Rattle.std.specs.Prelude.{◌≡◌, ◌<◌, ◌≤◌, true, length};
-ghost use Rattle.samples.specs.Answers.{accept};
-ghost use Rattle.samples.specs.Sizes.{highest_rate};
+ghost use Rattle.std.specs.Prelude.{◌≡◌, ◌<◌, ◌≤◌, true, length, Err};
+ghost use Rattle.samples.specs.Answers.{Accepted, accept};
+ghost use Rattle.samples.specs.Sizes.{rate_ok};
 ghost use Rattle.bands.specs.Times.{time_ok};
 ghost use Rattle.primes.specs.Table.{primes_len, prime_at, delay_at};
 ghost use Rattle.primes.specs.Power.{nearest_power};
 ghost use Rattle.primes.specs.Values.{valued, delay_min, value_from, values_from, judged_time, judged_index, judged_min, judged_power, judged_value, judged_values};
 
 use bands::time_ok;
-use samples::{Answer, and, is_accepted, need, rate_ok};
+use samples::{Answer, Refusal, need, rate_ok};
 
 // How many lines have a prime.
 const LINES: usize = 16;
@@ -31,25 +31,53 @@ const SUM_OF_TIME: f32 = 0.15;
 // The parts of that sum, one a line.
 const SUM_PARTS: f32 = 16.0;
 
-// An answer with a value: 0 where the call is refused.
+// An answer with a value.
+// Kept (1): R6.21 has a refused call give 0, and an `Err` would give none.
 #[derive(Clone, Copy)]
 pub struct Value {
     pub answer: Answer,
     pub value: u32,
 }
 
+// A line that the table has a prime for.
+#[derive(Clone, Copy)]
+struct Line {
+    index: usize,
+    ghost in_table: { index < primes_len },
+}
+
+impl Line {
+    // Its prime.
+    fn prime(self) -> u32
+        ensures { result ≡ prime_at self.index }
+    {
+        PRIMES[self.index]
+    }
+
+    // The power of its prime that is nearest to x.
+    fn power(self, x: u32) -> u32
+        requires { x ≤ 200000 }
+        ensures { result ≡ nearest_power (prime_at self.index) x }
+    {
+        nearest_power(u64::from(self.prime()), u64::from(x)) as u32
+    }
+
+    // Its delay value, from the least delay and a random number.
+    fn value(self, least: u32, random: u16) -> u32
+        requires { least ≤ 192000 }
+        ensures { result ≡ value_from least random self.index }
+    {
+        self.power(least + u32::from(random % 101))
+    }
+}
+
 // The prime of a line (R6.16).
 pub fn prime(index: usize) -> Value
     ensures { result ≡ valued (judged_index index) (prime_at index) }
 {
-    let answer = judge_index(index);
-    if is_accepted(answer) {
-        Value {
-            answer,
-            value: prime_at(index),
-        }
-    } else {
-        Value { answer, value: 0 }
+    match judge_index(index) {
+        Ok(()) => given(Line { index }.prime()),
+        Err(refusal) => refused(refusal),
     }
 }
 
@@ -64,14 +92,9 @@ pub fn delay(line: usize) -> usize
 pub fn delay_min(time: f32, rate: u32) -> Value
     ensures { result ≡ valued (judged_min time rate) (delay_min time rate) }
 {
-    let answer = judge_min(time, rate);
-    if is_accepted(answer) {
-        Value {
-            answer,
-            value: least(time, rate),
-        }
-    } else {
-        Value { answer, value: 0 }
+    match judge_min(time, rate) {
+        Ok(()) => given(least(time, rate)),
+        Err(refusal) => refused(refusal),
     }
 }
 
@@ -79,14 +102,9 @@ pub fn delay_min(time: f32, rate: u32) -> Value
 pub fn prime_power(x: u32, index: usize) -> Value
     ensures { result ≡ valued (judged_power x index) (nearest_power (prime_at index) x) }
 {
-    let answer = judge_power(x, index);
-    if is_accepted(answer) {
-        Value {
-            answer,
-            value: power_at(x, index),
-        }
-    } else {
-        Value { answer, value: 0 }
+    match judge_power(x, index) {
+        Ok(()) => given(Line { index }.power(x)),
+        Err(refusal) => refused(refusal),
     }
 }
 
@@ -94,14 +112,9 @@ pub fn prime_power(x: u32, index: usize) -> Value
 pub fn delay_value(time: f32, rate: u32, random: u16, index: usize) -> Value
     ensures { result ≡ valued (judged_value time rate index) (value_from (delay_min time rate) random index) }
 {
-    let answer = judge_value(time, rate, index);
-    if is_accepted(answer) {
-        Value {
-            answer,
-            value: value_at(least(time, rate), random, index),
-        }
-    } else {
-        Value { answer, value: 0 }
+    match judge_value(time, rate, index) {
+        Ok(()) => given(Line { index }.value(least(time, rate), random)),
+        Err(refusal) => refused(refusal),
     }
 }
 
@@ -110,83 +123,87 @@ pub fn delay_values(time: f32, rate: u32, randoms: &[u16], out: &mut [u32]) -> A
     ensures value { result ≡ judged_values time rate (length randoms.now) (length out.old) }
     ensures out_after { out.new ≡ accept (judged_values time rate (length randoms.now) (length out.old)) (values_from (delay_min time rate) 0 randoms.now) out.old }
 {
-    let answer = judge_values(time, rate, randoms.len(), out.len());
-    if !is_accepted(answer) {
-        return answer;
-    }
+    judge_values(time, rate, randoms.len(), out.len())?;
     set_values(least(time, rate), randoms, out);
-    answer
+    Ok(())
+}
+
+// The value of an accepted call.
+fn given(value: u32) -> Value
+    ensures { result ≡ valued Accepted value }
+{
+    Value {
+        answer: Ok(()),
+        value,
+    }
+}
+
+// What a refused call gives.
+fn refused(refusal: Refusal) -> Value
+    ensures { result ≡ valued (Err refusal) 0 }
+{
+    Value {
+        answer: Err(refusal),
+        value: 0,
+    }
 }
 
 // Whether the table has an index: the answer of `prime`.
 fn judge_index(index: usize) -> Answer
     ensures { result ≡ judged_index index }
 {
-    need(index < LINES, Answer::BadIndex, Answer::Accepted)
+    need(index < LINES, Refusal::BadIndex)
 }
 
 // The answer of `prime_power`.
 fn judge_power(x: u32, index: usize) -> Answer
     ensures { result ≡ judged_power x index }
 {
-    need(x <= 200000, Answer::BadIndex, judge_index(index))
+    need(x <= 200000, Refusal::BadIndex)?;
+    judge_index(index)
 }
 
 // The answer of `delay_min`.
 fn judge_min(time: f32, rate: u32) -> Answer
     ensures { result ≡ judged_min time rate }
 {
-    need(rate_ok(rate), Answer::BadSize, judge_time(time))
+    need(rate_ok(rate), Refusal::BadSize)?;
+    judge_time(time)
 }
 
 // The answer of `delay_value`.
 fn judge_value(time: f32, rate: u32, index: usize) -> Answer
     ensures { result ≡ judged_value time rate index }
 {
-    let rest = need(index < LINES, Answer::BadIndex, judge_time(time));
-    need(rate_ok(rate), Answer::BadSize, rest)
+    need(rate_ok(rate), Refusal::BadSize)?;
+    judge_index(index)?;
+    judge_time(time)
 }
 
 // The answer of `delay_values`, by the lengths of its slices.
 fn judge_values(time: f32, rate: u32, randoms: usize, out: usize) -> Answer
     ensures { result ≡ judged_values time rate randoms out }
 {
-    let sixteen = and(randoms == LINES, out == LINES);
-    let rest = need(sixteen, Answer::BadLength, judge_time(time));
-    need(rate_ok(rate), Answer::BadSize, rest)
+    need(rate_ok(rate), Refusal::BadSize)?;
+    need((randoms == LINES) & (out == LINES), Refusal::BadLength)?;
+    judge_time(time)
 }
 
 // Whether a time is taken: what every judge of a time asks last.
 fn judge_time(time: f32) -> Answer
     ensures { result ≡ judged_time time }
 {
-    need(time_ok(time), Answer::BadTime, Answer::Accepted)
-}
-
-// The prime at an index of the table.
-fn prime_at(index: usize) -> u32
-    requires { index < primes_len }
-    ensures { result ≡ prime_at index }
-{
-    PRIMES[index]
+    need(time_ok(time), Refusal::BadTime)
 }
 
 // The least delay of a line at a time and a rate in range.
 fn least(time: f32, rate: u32) -> u32
     requires time_fits { time_ok time ≡ true }
-    requires rate_fits { rate ≤ highest_rate }
+    requires rate_fits { rate_ok rate ≡ true }
     ensures { (result ≡ delay_min time rate) × (result ≤ 192000) }
 {
     let sum = SUM_OF_TIME * time * std::num::nearest_u32_to_f32(rate);
     std::num::truncating_f32_to_u64(sum / SUM_PARTS) as u32
-}
-
-// The power nearest to x of the prime at an index of the table.
-fn power_at(x: u32, index: usize) -> u32
-    requires { (x ≤ 200000) × (index < primes_len) }
-    ensures { result ≡ nearest_power (prime_at index) x }
-{
-    nearest_power(prime_at(index) as u64, x as u64) as u32
 }
 
 // The power of p that is nearest to x in ratio: from 1 up, the first v for which x is below v times
@@ -197,25 +214,18 @@ fn nearest_power(p: u64, x: u64) -> u64
 {
     let mut v = 1u64;
     while v * v * p <= x * x {
-        v = v * p;
+        v *= p;
     }
     v
 }
 
-// The delay value of a line, from the least delay and a random number.
-fn value_at(least: u32, random: u16, index: usize) -> u32
-    requires { (least ≤ 192000) × (index < primes_len) }
-    ensures { result ≡ value_from least random index }
-{
-    power_at(least + (random % 101) as u32, index)
-}
-
 // Sets the delay value of every line.
+// Kept (3): zipped with the random numbers, `iter_mut` leaves no proof of what was written.
 fn set_values(least: u32, randoms: &[u16], out: &mut [u32])
     requires { (least ≤ 192000) × (length randoms.now ≡ primes_len) × (length out.old ≡ primes_len) }
     ensures { out.new ≡ values_from least 0 randoms.now }
 {
-    for i in 0..LINES {
-        out[i] = value_at(least, randoms[i], i);
+    for (i, value) in out.iter_mut().enumerate() {
+        *value = Line { index: i }.value(least, randoms[i]);
     }
 }

@@ -1,64 +1,35 @@
-// What a unit keeps, compared: the cursors of its rings and its filters.
-use crate::tape::{Ends, Tape, same_cursors, same_row};
+// What a unit keeps, compared: the cursors of its rings, its filters and its store.
+use crate::tape::{Stop, Tape};
 use delay::Cursors;
 use iir::Filter;
-use std::io;
 use std::io::Read;
-use unit::{FILTERS, LINES, PASS_RINGS};
+use unit::State;
 
-// Compares a filter's nine numbers. `at` is what the first is called.
-pub(crate) fn same_filter<T: Print, R: Read + Drop>(
-    ends: &mut Ends<'_, T, R>,
-    t: Tape,
-    at: usize,
-    f: Filter,
-    bytes: &mut [u8],
-) -> io::Result<Tape> {
-    same_row(
-        ends,
-        t,
-        "filter number",
-        at,
-        &[f.a1, f.a2, f.b0, f.b1, f.b2, f.x1, f.x2, f.y1, f.y2],
-        bytes,
-    )
+// Compares all that a unit keeps.
+pub(crate) fn kept<R: Read + Drop>(
+    tape: &mut Tape<R>,
+    state: State,
+    store: &[f32],
+) -> Result<(), Stop> {
+    same_rings(tape, &state)?;
+    same_filters(tape, &state.filters)?;
+    tape.same_row("store", 0, store)
 }
 
-// The cursors of a ring: the lines' rings come first, and then the passes'.
-fn cursors_of(lines: [Cursors; LINES], passes: [Cursors; PASS_RINGS], ring: usize) -> Cursors {
-    if ring < LINES {
-        let c = lines[ring];
-        return c;
+// Compares the cursors of all rings: the lines' come first, and then the passes'.
+fn same_rings<R: Read + Drop>(tape: &mut Tape<R>, state: &State) -> Result<(), Stop> {
+    for (ring, c) in state.lines.iter().chain(&state.passes).enumerate() {
+        tape.same_cursors(ring, *c)?;
     }
-    let d = passes[ring % PASS_RINGS];
-    d
-}
-
-// Compares the cursors of all rings.
-pub(crate) fn same_rings<T: Print, R: Read + Drop>(
-    ends: &mut Ends<'_, T, R>,
-    t: Tape,
-    lines: [Cursors; LINES],
-    passes: [Cursors; PASS_RINGS],
-) -> io::Result<Tape> {
-    let mut u = t;
-    for i in 0..LINES + PASS_RINGS {
-        u = same_cursors(ends, u, i, cursors_of(lines, passes, i))?;
-    }
-    Ok(u)
+    Ok(())
 }
 
 // Compares the filters: nine numbers each, in a row.
-pub(crate) fn same_filters<T: Print, R: Read + Drop>(
-    ends: &mut Ends<'_, T, R>,
-    t: Tape,
-    fs: [Filter; FILTERS],
-    bytes: &mut [u8],
-) -> io::Result<Tape> {
-    let mut u = t;
-    for i in 0..FILTERS {
-        let f = fs[i];
-        u = same_filter(ends, u, 9 * i, f, bytes)?;
+// Kept (2): `orders` and `iir: numbers` list the nine too. No plainer: one for all would be a public function of `iir`, with promises of its own, for the sake of one line here.
+fn same_filters<R: Read + Drop>(tape: &mut Tape<R>, filters: &[Filter]) -> Result<(), Stop> {
+    for (i, f) in filters.iter().enumerate() {
+        let numbers = [f.a1, f.a2, f.b0, f.b1, f.b2, f.x1, f.x2, f.y1, f.y2];
+        tape.same_row("filter number", 9 * i, &numbers)?;
     }
-    Ok(u)
+    Ok(())
 }

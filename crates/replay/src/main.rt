@@ -6,56 +6,38 @@ mod kept;
 mod tape;
 mod units;
 
-use crate::tape::{Ends, Tape};
+use crate::tape::{Count, Kind, Stop, Tape};
 use std::io;
 use std::io::Read;
 
-// Writes how much was compared, where all was equal; a difference is written where it is found.
-fn say_end(rt: &impl Print, t: Tape) -> io::Result<()> {
-    if t.good {
-        let records = t.records;
-        let numbers = t.numbers;
-        println!(rt; "replay: {records} records, {numbers} numbers, all as the Rust's")?;
+// Every unit until the input ends or one differs. Nothing says that the input ends, so the turns are
+// counted to a number that no run uses up.
+fn replay<R: Read + Drop>(tape: &mut Tape<R>) -> Result<(), Stop> {
+    for _ in 0..u64::MAX {
+        let record = tape.next()?;
+        if record.kind != Kind::Unit {
+            return Err(Stop::Cut);
+        }
+        units::unit(tape, record)?;
     }
     Ok(())
 }
 
-// The whole life of a unit, which a record begins.
-fn record<T: Print, R: Read + Drop>(
-    ends: &mut Ends<'_, T, R>,
-    t: Tape,
-    bytes: &mut [u8],
-) -> io::Result<Tape> {
-    if t.kind == crate::tape::UNIT {
-        return units::unit(ends, t, bytes);
-    }
-    crate::tape::cut(ends, t)
-}
-
-// Every record until the input ends or one differs.
-fn replay<T: Print, R: Read + Drop>(
-    ends: &mut Ends<'_, T, R>,
-    bytes: &mut [u8],
-) -> io::Result<Tape> {
-    let mut t = crate::tape::begin();
-    let mut turns = u64::MAX;
-    while turns > 0 {
-        t = crate::tape::next(ends, t)?;
-        if !t.more {
-            break;
-        }
-        t = record(ends, t, bytes)?;
-        turns -= 1;
-    }
-    Ok(t)
-}
-
+// Writes how much was compared, where all was equal, and else where it stopped.
 fn main(rt: HostRuntime) -> io::Result<()> {
-    let mut bytes = [0u8; 95936];
-    let mut ends = Ends {
-        rt: &rt,
-        input: rt.reader(),
-    };
-    let t = replay(&mut ends, &mut bytes)?;
-    say_end(&rt, t)
+    let mut tape = Tape::new(rt.reader());
+    let end = replay(&mut tape);
+    let Count {
+        records,
+        numbers,
+        ..
+    } = tape.count;
+    match end {
+        Ok(()) | Err(Stop::End) => println!(rt;
+            "replay: {records} records, {numbers} numbers, all as the Rust's"
+        ),
+        Err(Stop::Cut) => println!(rt; "replay: record {records} isn't whole, or of no kind known"),
+        Err(Stop::Different(difference)) => println!(rt; "replay: record {records}, {difference}"),
+        Err(Stop::Io(e)) => Err(e),
+    }
 }

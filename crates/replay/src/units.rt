@@ -1,272 +1,119 @@
 // Units from fresh on: their calls, and what they keep in the end.
-use crate::kept::{same_filters, same_rings};
-use crate::tape::{Ends, Tape, fill, fill_two, next, same, same_row};
+use crate::kept::kept;
+use crate::tape::{Kind, Record, Stop, Tape};
 use audio_buffer::AudioEffectState;
 use bands::Times;
-use samples::Frames;
-use std::io;
 use std::io::Read;
 use unit::{ALLPASS_FLOATS, COEFFICIENTS, DELAYS_AND_RINGS, LINES, Outcome, ROWS, State};
 
-// A unit on its way, and where the replay is.
-#[derive(Clone, Copy)]
-struct Going {
+// The longest frame.
+const LONGEST: usize = 1024;
+
+// A unit on its way, and what its calls are lent.
+#[derive(Drop)]
+struct Going<'a> {
     state: State,
-    tape: Tape,
+    cs: [f32; COEFFICIENTS],
+    input: &'a mut [f32],
+    store: &'a mut [f32],
+    work: &'a mut [f32],
+    output: &'a mut [f32],
 }
 
-// A unit of the frame that its record says, on memory of that frame's lengths.
-pub(crate) fn unit<T: Print, R: Read + Drop>(
-    ends: &mut Ends<'_, T, R>,
-    t: Tape,
-    bytes: &mut [u8],
-) -> io::Result<Tape> {
-    if t.b == 4 {
-        return live(
-            ends,
-            t,
-            &mut [0.0f32; 4],
-            &mut [0.0f32; DELAYS_AND_RINGS + LINES * 4],
-            &mut [0.5f32; ROWS * 4 + ALLPASS_FLOATS],
-            &mut [0.5f32; 4],
-            bytes,
-        );
-    }
-    if t.b == 12 {
-        return live(
-            ends,
-            t,
-            &mut [0.0f32; 12],
-            &mut [0.0f32; DELAYS_AND_RINGS + LINES * 12],
-            &mut [0.5f32; ROWS * 12 + ALLPASS_FLOATS],
-            &mut [0.5f32; 12],
-            bytes,
-        );
-    }
-    if t.b == 128 {
-        return live(
-            ends,
-            t,
-            &mut [0.0f32; 128],
-            &mut [0.0f32; DELAYS_AND_RINGS + LINES * 128],
-            &mut [0.5f32; ROWS * 128 + ALLPASS_FLOATS],
-            &mut [0.5f32; 128],
-            bytes,
-        );
-    }
-    live(
-        ends,
-        t,
-        &mut [0.0f32; 1024],
-        &mut [0.0f32; DELAYS_AND_RINGS + LINES * 1024],
-        &mut [0.5f32; ROWS * 1024 + ALLPASS_FLOATS],
-        &mut [0.5f32; 1024],
-        bytes,
-    )
-}
-
-// A unit's life, from the fresh unit to the record of what it keeps.
-fn live<T: Print, R: Read + Drop>(
-    ends: &mut Ends<'_, T, R>,
-    t: Tape,
-    input: &mut [f32],
-    store: &mut [f32],
-    work: &mut [f32],
-    output: &mut [f32],
-    bytes: &mut [u8],
-) -> io::Result<Tape> {
-    let g = begin(ends.rt, t, store)?;
-    play(ends, g, input, store, work, output, bytes)
-}
-
-// The fresh unit.
-fn begin(rt: &impl Print, t: Tape, store: &mut [f32]) -> io::Result<Going> {
-    let a = reverb::fresh(t.a, t.b as usize, store);
-    let answer = a.answer;
-    let state = a.state;
-    let u = same(rt, t, "answer", 0, samples::number(answer) as u64, 0)?;
-    let tape = same(rt, u, "count", 0, pattern(state.count), t.c)?;
-    Ok(Going { state, tape })
-}
-
-// Its calls one after another.
-fn play<T: Print, R: Read + Drop>(
-    ends: &mut Ends<'_, T, R>,
-    g: Going,
-    input: &mut [f32],
-    store: &mut [f32],
-    work: &mut [f32],
-    output: &mut [f32],
-    bytes: &mut [u8],
-) -> io::Result<Tape> {
-    let mut cs = [0.0f32; COEFFICIENTS];
-    let mut going = g;
-    let mut turns = u64::MAX;
-    while turns > 0 {
-        going = step(ends, going, &mut cs, input, store, work, output, bytes)?;
-        let t = going.tape;
-        if is_over(t) {
-            return Ok(t);
-        }
-        turns -= 1;
-    }
-    let end = going.tape;
-    Ok(end)
-}
-
-// Whether a unit's life is over.
-fn is_over(t: Tape) -> bool {
-    if t.more {
-        return t.kind == crate::tape::KEPT;
-    }
-    true
-}
-
-// The next record.
-fn step<T: Print, R: Read + Drop>(
-    ends: &mut Ends<'_, T, R>,
-    g: Going,
-    cs: &mut [f32],
-    input: &mut [f32],
-    store: &mut [f32],
-    work: &mut [f32],
-    output: &mut [f32],
-    bytes: &mut [u8],
-) -> io::Result<Going> {
-    let state = g.state;
-    let t = g.tape;
-    let u = next(ends, t)?;
-    let tape = given(ends, u, cs, input, bytes)?;
-    done(
-        ends,
-        Going { state, tape },
-        cs,
-        input,
+// A unit from fresh to what it keeps, on memory of the lengths of its record's frame.
+pub(crate) fn unit<R: Read + Drop>(tape: &mut Tape<R>, record: Record) -> Result<(), Stop> {
+    let [rate, frame, count, _, _] = record.numbers;
+    let len = match frame {
+        4 | 12 | 128 => frame as usize,
+        _ => LONGEST,
+    };
+    let mut store = [0.0f32; DELAYS_AND_RINGS + LINES * LONGEST];
+    let store = &mut store[..DELAYS_AND_RINGS + LINES * len];
+    let fresh = reverb::fresh(rate, frame as usize, store);
+    same_answer(tape, fresh, count)?;
+    let mut going = Going {
+        state: fresh.state,
+        cs: [0.0f32; COEFFICIENTS],
+        input: &mut [0.0f32; LONGEST][..len],
         store,
-        work,
-        output,
-        bytes,
-    )
+        work: &mut [0.5f32; ROWS * LONGEST + ALLPASS_FLOATS][..ROWS * len + ALLPASS_FLOATS],
+        output: &mut [0.5f32; LONGEST][..len],
+    };
+    going.play(tape)
 }
 
-// Does what the record says.
-fn done<T: Print, R: Read + Drop>(
-    ends: &mut Ends<'_, T, R>,
-    g: Going,
-    cs: &[f32],
-    input: &[f32],
-    store: &mut [f32],
-    work: &mut [f32],
-    output: &mut [f32],
-    bytes: &mut [u8],
-) -> io::Result<Going> {
-    let t = g.tape;
-    if is_over(t) {
-        return kept(ends, g, store, bytes);
-    }
-    let s = g.state;
-    let a = call(t, s, cs, input, store, work, output);
-    let state = a.state;
-    let tape = answered(ends, t, a, output, bytes)?;
-    Ok(Going { state, tape })
+// Compares the answer and the count of a call.
+fn same_answer<R: Read + Drop>(tape: &mut Tape<R>, a: Outcome, count: u32) -> Result<(), Stop> {
+    let answer = u64::from(samples::number(a.answer));
+    tape.count.same("answer", 0, answer, 0)?;
+    let ours = u64::from(a.state.count.0.cast_unsigned());
+    tape.count.same("count", 0, ours, count)
 }
 
-// Reads what a call is given: an apply its input, and where they are new its coefficients.
-fn given<T: Print, R: Read + Drop>(
-    ends: &mut Ends<'_, T, R>,
-    t: Tape,
-    cs: &mut [f32],
-    input: &mut [f32],
-    bytes: &mut [u8],
-) -> io::Result<Tape> {
-    if t.kind == crate::tape::APPLY_NEW {
-        return fill_two(ends, t, cs, input, bytes);
+impl Going<'_> {
+    // The calls one after another, to the record of what is kept.
+    fn play<R: Read + Drop>(&mut self, tape: &mut Tape<R>) -> Result<(), Stop> {
+        for _ in 0..u64::MAX {
+            let record = tape.next()?;
+            if record.kind == Kind::Kept {
+                return kept(tape, self.state, self.store);
+            }
+            self.given(tape, record.kind)?;
+            let a = self.call(record);
+            self.state = a.state;
+            self.answered(tape, record, a)?;
+        }
+        Ok(())
     }
-    if t.kind == crate::tape::APPLY {
-        return fill(ends, t, input, bytes);
-    }
-    Ok(t)
-}
 
-// The times of an apply.
-fn times(t: Tape) -> Times {
-    Times {
-        low: wire::sample(t.c),
-        mid: wire::sample(t.d),
-        high: wire::sample(t.e),
+    // Reads what a call is given: an apply its input, and where they are new its coefficients.
+    fn given<R: Read + Drop>(&mut self, tape: &mut Tape<R>, kind: Kind) -> Result<(), Stop> {
+        match kind {
+            Kind::ApplyNew => {
+                tape.fill(&mut self.cs)?;
+                tape.fill(self.input)
+            }
+            Kind::Apply => tape.fill(self.input),
+            _ => Ok(()),
+        }
     }
-}
 
-// The call of a record.
-fn call(
-    t: Tape,
-    s: State,
-    cs: &[f32],
-    input: &[f32],
-    store: &mut [f32],
-    work: &mut [f32],
-    output: &mut [f32],
-) -> Outcome {
-    if t.kind == crate::tape::TAIL {
-        return reverb::tail(s, store, work, output);
+    // The call of a record. One of another kind is an apply that is given what the last was.
+    fn call(&mut self, record: Record) -> Outcome {
+        match record.kind {
+            Kind::Tail => reverb::tail(self.state, self.store, self.work, self.output),
+            Kind::Reset => reverb::reset(self.state, self.store),
+            _ => {
+                let [_, _, low, mid, high] = record.numbers.map(wire::sample);
+                let times = Times { low, mid, high };
+                let input = &mut *self.input;
+                reverb::apply(
+                    self.state,
+                    times,
+                    &self.cs,
+                    input,
+                    self.store,
+                    self.work,
+                    self.output,
+                )
+            }
+        }
     }
-    if t.kind == crate::tape::RESET {
-        return reverb::reset(s, store);
-    }
-    reverb::apply(s, times(t), cs, input, store, work, output)
-}
 
-// Compares what a call answered: a reset has neither verdict nor output.
-fn answered<T: Print, R: Read + Drop>(
-    ends: &mut Ends<'_, T, R>,
-    t: Tape,
-    a: Outcome,
-    output: &[f32],
-    bytes: &mut [u8],
-) -> io::Result<Tape> {
-    let answer = a.answer;
-    let verdict = a.verdict;
-    let state = a.state;
-    let u = same(ends.rt, t, "answer", 0, samples::number(answer) as u64, 0)?;
-    let v = same(ends.rt, u, "count", 0, pattern(state.count), t.a)?;
-    if t.kind == crate::tape::RESET {
-        return Ok(v);
+    // Compares what a call answered: a reset has neither verdict nor output.
+    fn answered<R: Read + Drop>(
+        &self,
+        tape: &mut Tape<R>,
+        record: Record,
+        a: Outcome,
+    ) -> Result<(), Stop> {
+        let [count, verdict, _, _, _] = record.numbers;
+        same_answer(tape, a, count)?;
+        if record.kind == Kind::Reset {
+            return Ok(());
+        }
+        let remaining = u64::from(a.verdict == AudioEffectState::TailRemaining);
+        tape.count.same("verdict", 0, remaining, verdict)?;
+        tape.same_row("output", 0, self.output)
     }
-    let w = same(ends.rt, v, "verdict", 0, remaining(verdict), t.b)?;
-    same_row(ends, w, "output", 0, output, bytes)
-}
-
-// A verdict as the records have it.
-fn remaining(verdict: AudioEffectState) -> u64 {
-    match verdict {
-        AudioEffectState::TailRemaining => 1,
-        AudioEffectState::TailComplete => 0,
-    }
-}
-
-// The 32 bits of a count.
-fn pattern(count: Frames) -> u64 {
-    let n = count.0;
-    if n < 0 {
-        return 4294967295 - (-1 - n) as u64;
-    }
-    n as u64
-}
-
-// Compares all that a unit keeps.
-fn kept<T: Print, R: Read + Drop>(
-    ends: &mut Ends<'_, T, R>,
-    g: Going,
-    store: &[f32],
-    bytes: &mut [u8],
-) -> io::Result<Going> {
-    let t = g.tape;
-    let state = g.state;
-    let lines = state.lines;
-    let passes = state.passes;
-    let filters = state.filters;
-    let u = same_rings(ends, t, lines, passes)?;
-    let v = same_filters(ends, u, filters, bytes)?;
-    let tape = same_row(ends, v, "store", 0, store, bytes)?;
-    Ok(Going { state, tape })
 }

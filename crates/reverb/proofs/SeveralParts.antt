@@ -1,4 +1,5 @@
 -- A frame among several: what it comes to is how the apply on the unit as it is then ends. Assumes nothing.
+use Rattle.std.specs.Prelude.{Result, Ok, Err}
 use mathlib.Core.Path.{◌≡◌, refl, sym, ap, ◌∙◌}
 use mathlib.Core.Bool.{Bool, true, false, ◌&&◌, cond}
 use mathlib.Core.List.{List}
@@ -6,12 +7,12 @@ use Prim.Native.Nat.{ℕ}
 use lib.Ieee.{Float}
 use lib.IntN.{ℤ, pos}
 use lib.ListN.{length, take, replicate}
-use Rattle.samples.specs.declared.Answer.{Answer}
-use Rattle.samples.specs.declared.Answer.TheVariants.{Accepted, NotFinite}
-use Rattle.samples.specs.Answers.{accept, accepted}
+use Rattle.samples.specs.declared.Refusal.{Refusal}
+use Rattle.samples.specs.declared.Refusal.TheVariants.{NotFinite}
+use Rattle.samples.specs.Answers.{Answer, Accepted, accept, with_value}
 use Rattle.samples.specs.Binary32.{+0}
 use Rattle.samples.specs.Sizes.{frame_ok}
-use Rattle.samples.proofs.Laws.{split_and, join_and, accept_no, accept_either, is_accepted}
+use Rattle.samples.proofs.Laws.{split_and, join_and, accept_either}
 use Rattle.search.specs.Search.{first_bad}
 use Rattle.audio_buffer.specs.declared.AudioEffectState.TheVariants.{TailComplete}
 use Rattle.audio_buffer.specs.Verdict.{verdict_of}
@@ -34,11 +35,10 @@ use Rattle.frame.specs.Steps.{Left, left_by, ran, ran_with_room, untouched, step
 use Rattle.machine.specs.Ending.{Memory, Ending, cleared}
 use Rattle.machine.specs.Whole.{apply, at_once, played}
 use Rattle.machine.proofs.Cases.{cond_either}
-use Rattle.reverb.specs.declared.several.Next.{Next}
-use Rattle.reverb.specs.Workers.{unit_stepped, rings_at, NextLeft, halted, next_frame}
+use Rattle.reverb.specs.Workers.{unit_stepped, rings_at, answer_of, kept_of, NextLeft, next_frame}
 
 -- x is what a frame comes to, and store, work and output are what it leaves, where it turns out as t
-abbrev pub Leaves : NextLeft → Next → List Float → List Float → List Float → Type 0
+abbrev pub Leaves : NextLeft → Result Stepped Refusal → List Float → List Float → List Float → Type 0
 Leaves t x store work output = (x ≡ t.next) × ((store ≡ t.store) × ((work ≡ t.work) × (output ≡ t.output)))
 
 module _ (f : ℕ) (ls : List ℕ) (last : Stepped) (fs : List Filter) (input store work output : List Float) where
@@ -51,19 +51,19 @@ module _ (f : ℕ) (ls : List ℕ) (last : Stepped) (fs : List Filter) (input st
   -- where it is kept
   abbrev on : NextLeft
   on = record {
-    next = record { answer = Accepted; frame = stepped_on f r true (new_filters X) };
+    next = Ok (stepped_on f r true (new_filters X));
     store = settled wall.lines f r X.lines.put X.output.rings store;
     work = cleared work;
     output = X.output.out;
   }
 
-  pub eight : accepted (bad_input (first_bad input)) ≡ false
-      → Leaves (next_frame f ls last fs input store work output) (record { answer = bad_input (first_bad input); frame = last }) store work output
+  -- its input is refused
+  pub eight : {bad : Refusal} → bad_input (first_bad input) ≡ Err bad → Leaves (next_frame f ls last fs input store work output) (Err bad) store work output
   unfolding next_frame
-  eight h = rw (accept_no (bad_input (first_bad input)) (cond (frame_finite X) on (halted NotFinite last store (cleared work) output)) (halted (bad_input (first_bad input)) last store work output) h) (refl, (refl, (refl, refl)))
+  eight h = rw h (refl, (refl, (refl, refl)))
 
   -- its input lies at the front of the work memory w, and there is room
-  module _ (let_by : accepted (bad_input (first_bad input)) ≡ true) (w : List Float) (front : take f w ≡ input) (long : length w ≡ length work)
+  module _ (let_by : bad_input (first_bad input) ≡ Accepted) (w : List Float) (front : take f w ≡ input) (long : length w ≡ length work)
       (room : room_ok wall f r (length store) (length w) (length output) ≡ true) (v : Rings) (e : v ≡ r) where
     here : ran wall f v false fs store w output
         ≡ left_by wall.lines f r (frame_finite X) (new_filters X) (record { input = input; reads = X.reads; mixed = X.lines.put; output = X.output.out; rings = X.output.rings }) store w output
@@ -80,11 +80,11 @@ module _ (f : ℕ) (ls : List ℕ) (last : Stepped) (fs : List Filter) (input st
       unfolding left_by
       judged b q = sym (ap (λ (y : Stepped). y.ok) (ex ∙ ap (λ (l : Left). l.stepped) here)) ∙ q
 
-      pub kept_next : x.ok ≡ true → Leaves (next_frame f ls last fs input store work output) (record { answer = Accepted; frame = x }) store' work' output'
+      pub kept_next : x.ok ≡ true → Leaves (next_frame f ls last fs input store work output) (Ok x) store' work' output'
       unfolding next_frame left_by
       kept_next q =
-          rw (is_accepted (bad_input (first_bad input)) let_by, judged true q) (
-            (λ i. record { answer = Accepted; frame = (ex ∙ ap (λ (l : Left). l.stepped) here ∙ ap (λ (b : Bool). stepped_on f r b (new_filters X)) (judged true q)) i }),
+          rw (let_by, judged true q) (
+            (ap Ok (ex ∙ ap (λ (l : Left). l.stepped) here ∙ ap (λ (b : Bool). stepped_on f r b (new_filters X)) (judged true q))),
             (
               es ∙ ap (λ (l : Left). l.store) here ∙ ap (λ (b : Bool). cond b (settled wall.lines f r X.lines.put X.output.rings store) store) (judged true q),
               (
@@ -94,10 +94,10 @@ module _ (f : ℕ) (ls : List ℕ) (last : Stepped) (fs : List Filter) (input st
             ),
           )
 
-      pub nine : x.ok ≡ false → Leaves (next_frame f ls last fs input store work output) (record { answer = NotFinite; frame = last }) store' work' output'
+      pub nine : x.ok ≡ false → Leaves (next_frame f ls last fs input store work output) (Err NotFinite) store' work' output'
       unfolding next_frame left_by
       nine q =
-          rw (is_accepted (bad_input (first_bad input)) let_by, judged false q) (
+          rw (let_by, judged false q) (
             refl,
             (
               es ∙ ap (λ (l : Left). l.store) here ∙ ap (λ (b : Bool). cond b (settled wall.lines f r X.lines.put X.output.rings store) store) (judged false q),
@@ -127,18 +127,18 @@ module _ (s : State) (t : Times) (coefficients : List Float) (last : Stepped) (c
   -- the ending that it makes: accepted, the unit is that of the frame
   abbrev pub as_ending : NextLeft → Ending
   as_ending x =
-      let a = x.next.answer in
+      let a = answer_of x.next in
       record {
         answer = a;
         verdict = accept a (verdict_of next) TailComplete;
-        memory = record { unit = accept a (unit_stepped (of_state s) x.next.frame next) u; store = x.store; work = x.work };
+        memory = record { unit = accept a (unit_stepped (of_state s) (kept_of x.next last) next) u; store = x.store; work = x.work };
         output = x.output;
       }
 
   pub turn-ends : judged_apply wall u t coefficients input (length store) (length work) (length output) ≡ bad_input (first_bad input)
       → at_once wall w (apply t coefficients input) output ≡ as_ending T
   unfolding next_frame played
-  turn-ends e = go (accepted due) refl
+  turn-ends e = go due refl
     where
       due : Answer
       due = bad_input (first_bad input)
@@ -150,9 +150,9 @@ module _ (s : State) (t : Times) (coefficients : List Float) (last : Stepped) (c
       finite true f d = rw (e, d, f) refl
       finite false f d = rw (e, d, f) refl
 
-      go : (b : Bool) → accepted due ≡ b → at_once wall w (apply t coefficients input) output ≡ as_ending T
-      go true h = finite (frame_finite x) refl (is_accepted due h)
-      go false h = rw e (simp accept_no refl)
+      go : (d : Answer) → due ≡ d → at_once wall w (apply t coefficients input) output ≡ as_ending T
+      go (Ok tt) h = finite (frame_finite x) refl h
+      go (Err bad) h = rw (e, h) refl
 
 -- ---- on the rings as it leaves them there is room for the next
 
@@ -167,15 +167,19 @@ room_moved f ls last gs store work output e =
     join_and a.0
     (join_and b.0 (join_and (join_and (cursors_moved f ls last.lines d.0) (cursors_moved f wall.pass_lengths last.passes d.1)) c.1))
 
+kept_same : (a : Answer) (last : Stepped) → kept_of (with_value a last) last ≡ last
+kept_same (Ok tt) last = refl
+kept_same (Err bad) last = refl
+
 pub room_next : (f : ℕ) (ls : List ℕ) (last : Stepped) (fs : List Filter) (input store work output : List Float) (store_long work_long output_long : ℕ)
     → let x = next_frame f ls last fs input store work output in
-    accepted x.next.answer ≡ true → room_ok wall f (rings_at ls last) store_long work_long output_long ≡ true
-    → room_ok wall f (rings_at ls x.next.frame) store_long work_long output_long ≡ true
+    room_ok wall f (rings_at ls last) store_long work_long output_long ≡ true
+    → room_ok wall f (rings_at ls (kept_of x.next last)) store_long work_long output_long ≡ true
 unfolding next_frame
-room_next f ls last fs input store work output store_long work_long output_long ok room =
+room_next f ls last fs input store work output store_long work_long output_long room =
     accept_either Fits (bad_input (first_bad input))
-    (λ d. cond_either Fits (frame_finite (X f ls last fs input store work output)) (λ q a. room_moved f ls last (new_filters (X f ls last fs input store work output)) store_long work_long output_long room) (λ q a. room))
-    (λ r a. room) ok
+    (λ d. cond_either Fits (frame_finite (X f ls last fs input store work output)) (λ q. room_moved f ls last (new_filters (X f ls last fs input store work output)) store_long work_long output_long room) (λ q. room))
+    (λ r. rw (kept_same (bad_input (first_bad input)) last) room)
   where
     Fits : NextLeft → Type 0
-    Fits x = accepted x.next.answer ≡ true → room_ok wall f (rings_at ls x.next.frame) store_long work_long output_long ≡ true
+    Fits x = room_ok wall f (rings_at ls (kept_of x.next last)) store_long work_long output_long ≡ true

@@ -1,4 +1,5 @@
 -- Several frames one by one: what those done and those left come to together, a frame done, a frame refused, and none left. Assumes nothing.
+use Rattle.std.specs.Prelude.{Result, Ok, Err}
 use mathlib.Core.Path.{◌≡◌, refl, sym, ap, ◌∙◌}
 use mathlib.Core.Bool.{true, false}
 use mathlib.Core.List.{List, ◌++◌, append_assoc}
@@ -10,10 +11,9 @@ use lib.IntN.{ℤ, pos}
 use lib.ListN.{length, take, drop, length-append, length-take, length-drop}
 use lib.Seq.{take_at, drop_at, length-take-le}
 use borrow.Rule.Slice.PartMut.{put_mid, mid_of}
-use Rattle.samples.specs.declared.Answer.{Answer}
-use Rattle.samples.specs.declared.Answer.TheVariants.{Accepted}
-use Rattle.samples.specs.Answers.{accept, accepted}
-use Rattle.samples.proofs.Laws.{accept_yes, accept_no, is_accepted}
+use Rattle.samples.specs.declared.Refusal.{Refusal}
+use Rattle.samples.specs.Answers.{Answer, Accepted, accept, accepted}
+use Rattle.samples.proofs.Laws.{accept_yes, accept_no}
 use Rattle.samples.proofs.Turns.{more}
 use Rattle.search.specs.Search.{first_bad}
 use Rattle.audio_buffer.specs.declared.AudioEffectState.TheVariants.{TailComplete}
@@ -22,7 +22,6 @@ use Rattle.bands.specs.declared.Times.{Times}
 use Rattle.bands.specs.Times.{times_ok}
 use Rattle.bands.specs.Tail.{tail_count}
 use Rattle.unit.specs.declared.State.{State}
-use Rattle.unit.specs.declared.Outcome.{Outcome}
 use Rattle.unit.specs.declared.FramesOutcome.{FramesOutcome}
 use Rattle.unit.specs.UnitState.{UnitState, of_state}
 use Rattle.unit.specs.Outcome.{outcome}
@@ -35,7 +34,7 @@ use Rattle.frame.specs.declared.Stepped.{Stepped}
 use Rattle.machine.specs.Ending.{Memory, Ending, lend, refused}
 use Rattle.machine.specs.Whole.{apply, at_once}
 use Rattle.machine.specs.Several.{Several, done_then, stopped_by, singly, frames_outcome_of}
-use Rattle.reverb.specs.Workers.{unit_stepped, rings_at, NextLeft, next_frame, several_by}
+use Rattle.reverb.specs.Workers.{unit_stepped, rings_at, answer_of, kept_of, NextLeft, next_frame, several_by}
 use Rattle.reverb.proofs.SeveralParts.{as_ending, turn-ends}
 
 -- k frames are done, whose outputs are `first`, and those left come to x
@@ -99,36 +98,38 @@ module _ (s : State) (t : Times) (coefficients : List Float) (n k : ℕ) (h : k 
   abbrev x : NextLeft
   x = next_frame f (lengths wall (of_state s)) last (filters_of 51 coefficients) (take f input) store work (take f output)
 
-  abbrev a : Answer
-  a = x.next.answer
-
   abbrev next : ℤ
   next = pos (tail_count t s.rate f)
 
   ends : first t coefficients f w input output ≡ as_ending s t coefficients last count (take f input) store work (take f output) x
   ends = turn-ends s t coefficients last count (take f input) store work (take f output) due
 
-  pub turn-done : accepted a ≡ true
+  pub turn-done : (y : Stepped) → x.next ≡ Ok y
       → ahead k before (left t coefficients f (n - k) w input output)
-      ≡ ahead (k + 1) (before ++ x.output) (left t coefficients f (n - (k + 1)) (record { unit = unit_stepped (of_state s) x.next.frame next; store = x.store; work = x.work }) (drop f input) (drop f output))
-  turn-done ok =
+      ≡ ahead (k + 1) (before ++ x.output) (left t coefficients f (n - (k + 1)) (record { unit = unit_stepped (of_state s) y next; store = x.store; work = x.work }) (drop f input) (drop f output))
+  turn-done y e =
       one_done t coefficients f n k h w input output before _ _
-      (ap (λ (e : Ending). e.answer) ends ∙ is_accepted a ok)
-      (ap (λ (e : Ending). e.memory) ends ∙ (λ i. record { unit = accept_yes a (unit_stepped (of_state s) x.next.frame next) w.unit ok i; store = x.store; work = x.work }))
+      (ap (λ (e : Ending). e.answer) ends ∙ ap (answer_of {T = Stepped}) e)
+      (ap (λ (e : Ending). e.memory) ends ∙ (λ i. record { unit = accept (answer_of (e i)) (unit_stepped (of_state s) (kept_of (e i) last) next) w.unit; store = x.store; work = x.work }))
       (ap (λ (e : Ending). e.output) ends)
 
-  pub turn_refused : accepted a ≡ false
+  pub turn_refused : (bad : Refusal) → x.next ≡ Err bad
       → ahead k before (left t coefficients f (n - k) w input output)
-      ≡ ahead k before (stopped_by (record { answer = a; verdict = TailComplete; memory = record { unit = w.unit; store = x.store; work = x.work }; output = x.output }) (drop f output))
-  turn_refused bad =
-      one_refused t coefficients f n k h w input output before (ap (λ (e : Ending). accepted e.answer) ends ∙ bad)
+      ≡ ahead k before (stopped_by (record { answer = Err bad; verdict = TailComplete; memory = record { unit = w.unit; store = x.store; work = x.work }; output = x.output }) (drop f output))
+  turn_refused bad e =
+      one_refused t coefficients f n k h w input output before (ap (λ (e : Ending). accepted e.answer) ends ∙ ap (λ (y : Result Stepped Refusal). accepted (answer_of y)) e)
       ∙ ap (λ (e : Ending). ahead k before (stopped_by e (drop f output)))
-      (ends ∙ (λ i. record { answer = a; verdict = accept_no a (verdict_of next) TailComplete bad i; memory = record { unit = accept_no a (unit_stepped (of_state s) x.next.frame next) w.unit bad i; store = x.store; work = x.work }; output = x.output }))
+      (ends ∙ (λ i. record { answer = answer_of (e i); verdict = accept (answer_of (e i)) (verdict_of next) TailComplete; memory = record { unit = accept (answer_of (e i)) (unit_stepped (of_state s) (kept_of (e i) last) next) w.unit; store = x.store; work = x.work }; output = x.output }))
 
 -- ---- a frame of the input, and of the output
 
 pub lent_part : (at f : ℕ) (xs : List Float) → mid_of at (at + f - at) xs ≡ take f (drop at xs)
 lent_part at f xs = rw (add-sub_cancel_left at f) refl
+
+-- a frame of the input, judged
+pub part_judged : (at f : ℕ) (xs : List Float) {a b : Answer} → a ≡ bad_input (first_bad (mid_of at (at + f - at) xs)) → a ≡ b
+    → bad_input (first_bad (take f (drop at xs))) ≡ b
+part_judged at f xs e h = sym (ap (λ (l : List Float). bad_input (first_bad l)) (lent_part at f xs)) ∙ sym e ∙ h
 
 pub put_back : (at f : ℕ) (xs ys : List Float) → put_mid at (at + f - at) xs ys ≡ take at xs ++ (ys ++ drop f (drop at xs))
 put_back at f xs ys = rw (add-sub_cancel_left at f) refl
@@ -183,13 +184,13 @@ part_long at f xs h = ap length (lent_part at f xs) ∙ simp (length-take, lengt
 
 -- ---- what the caller is given
 
-pub refused_outcome : (u : UnitState) (a : Answer) (last : Stepped) (count : ℤ) (k : ℕ) (before rest store work output : List Float) → accepted a ≡ false
-    → several_by u a last count k
-    ≡ frames_outcome_of (ahead k before (stopped_by (record { answer = a; verdict = TailComplete; memory = record { unit = unit_stepped u last count; store = store; work = work }; output = output }) rest))
-refused_outcome u a last count k before rest store work output h =
-    λ i. record { outcome = outcome a (unit_stepped u last count) (accept_no a (verdict_of count) TailComplete h i); done = record { 0 = pos (sym (add-zero k) i) } }
+pub refused_outcome : (u : UnitState) (bad : Refusal) (last : Stepped) (count : ℤ) (k : ℕ) (before rest store work output : List Float)
+    → several_by u (Err bad) last count k
+    ≡ frames_outcome_of (ahead k before (stopped_by (record { answer = Err bad; verdict = TailComplete; memory = record { unit = unit_stepped u last count; store = store; work = work }; output = output }) rest))
+refused_outcome u bad last count k before rest store work output =
+    λ i. record { outcome = outcome (Err bad) (unit_stepped u last count) TailComplete; done = record { 0 = pos (sym (add-zero k) i) } }
 
--- judged by 1 to 7: what is left where they are refused, and where they are let by
+-- judged by 1 to 7: what is left where they are let by
 module _ (due : Answer) (new : Several) (s : State) (store work output : List Float) where
   abbrev judged : Several
   judged = accept due new (record { ending = refused due (lend s store work) output; done = 0 })
@@ -197,12 +198,6 @@ module _ (due : Answer) (new : Several) (s : State) (store work output : List Fl
   abbrev pub Gives : Several → FramesOutcome → List Float → List Float → List Float → Type 0
   Gives x y store' work' output' =
       (y ≡ frames_outcome_of x) × ((store' ≡ x.ending.memory.store) × ((work' ≡ x.ending.memory.work) × (output' ≡ x.ending.output)))
-
-  pub none_let_by : (a : Answer) (y : Outcome) → accepted due ≡ false → a ≡ due → y ≡ outcome a (of_state s) TailComplete
-      → Gives judged (record { outcome = y; done = record { 0 = pos 0 } }) store work output
-  none_let_by a y h e q =
-      rw (accept_no due new (record { ending = refused due (lend s store work) output; done = 0 }) h)
-      (λ i. record { outcome = (q ∙ ap (λ (b : Answer). outcome b (of_state s) TailComplete) e) i; done = record { 0 = pos 0 } }, (refl, (refl, refl)))
 
   pub all_let_by : (y : FramesOutcome) (store' work' output' : List Float) → accepted due ≡ true → Gives new y store' work' output' → Gives judged y store' work' output'
   all_let_by y store' work' output' h g = rw (accept_yes due new (record { ending = refused due (lend s store work) output; done = 0 }) h) g

@@ -11,8 +11,7 @@ use lib.ListN.{length, take, drop, replicate, length-append, length-drop, drop_o
 use lib.Seq.{take_all, take_at, length-take-le}
 use borrow.Author.Tests.{eq-eqb}
 use borrow.Rule.Slice.PartMut.{put_mid, mid_of}
-use Rattle.samples.specs.declared.Answer.{Answer}
-use Rattle.samples.specs.Answers.{accept, accepted}
+use Rattle.samples.specs.Answers.{Answer, accept, accepted}
 use Rattle.iir.specs.declared.Filter.{Filter}
 use Rattle.unit.specs.declared.State.{State}
 use Rattle.unit.specs.declared.Rings.{Rings}

@@ -1,8 +1,8 @@
 -- What the private workers of the whole calls and of several frames at once come to.
-use Rattle.std.specs.Prelude.{ℕ, ◌/◌, Bool, true, false, cond, List, Float, ℤ, pos, length, take}
-use Rattle.samples.specs.declared.Answer.{Answer}
-use Rattle.samples.specs.declared.Answer.TheVariants.{Accepted, NotFinite}
-use Rattle.samples.specs.Answers.{accept}
+use Rattle.std.specs.Prelude.{ℕ, ◌/◌, Bool, true, false, cond, List, Float, ℤ, pos, length, take, Result, Ok, Err}
+use Rattle.samples.specs.declared.Refusal.{Refusal}
+use Rattle.samples.specs.declared.Refusal.TheVariants.{NotFinite}
+use Rattle.samples.specs.Answers.{Answer, Accepted, accept, with_value}
 use Rattle.search.specs.Search.{first_bad}
 use Rattle.audio_buffer.specs.declared.AudioEffectState.TheVariants.{TailComplete}
 use Rattle.audio_buffer.specs.Verdict.{verdict_of}
@@ -24,7 +24,6 @@ use Rattle.frame.specs.Steps.{stepped_on}
 use Rattle.machine.specs.Ending.{Ending, lend, cleared}
 use Rattle.machine.specs.Whole.{played}
 use Rattle.machine.specs.Several.{Several, singly}
-use Rattle.reverb.specs.declared.several.Next.{Next}
 
 -- the unit after what a frame came to
 abbrev pub unit_stepped : UnitState → Stepped → ℤ → UnitState
@@ -33,7 +32,7 @@ unit_stepped u x count =
 
 -- R4.15, R4.21, R4.22: 9 unless all of it is finite
 abbrev pub played_by : UnitState → Stepped → ℤ → Outcome
-played_by u x count = cond x.ok (outcome Accepted (unit_stepped u x count) (verdict_of count)) (outcome NotFinite u TailComplete)
+played_by u x count = cond x.ok (outcome Accepted (unit_stepped u x count) (verdict_of count)) (outcome (Err NotFinite) u TailComplete)
 
 -- a frame through the filters fs, the input at the front of the work memory
 abbrev pub playing : State → Bool → List Filter → ℤ → List Float → List Float → List Float → Ending
@@ -48,16 +47,26 @@ playing s tail fs count store work output =
 abbrev pub rings_at : List ℕ → Stepped → Rings
 rings_at ls x = record { lines = record { lengths = ls; cursors = x.lines }; passes = passes_with wall x.passes }
 
--- what a frame among several comes to, and what it leaves of the memory
+-- what a frame among several gives, and what it leaves of the memory
 pub record NextLeft : Type 0 where
-  pub next : Next
+  pub next : Result Stepped Refusal
   pub store : List Float
   pub work : List Float
   pub output : List Float
 
+-- the answer of what is given or refused
+abbrev pub answer_of : {T : Type 0} → Result T Refusal → Answer
+answer_of (Ok given) = Accepted
+answer_of (Err bad) = Err bad
+
+-- the last frame that was kept: the one given, or `last` where it is refused
+abbrev pub kept_of : Result Stepped Refusal → Stepped → Stepped
+kept_of (Ok x) last = x
+kept_of (Err bad) last = last
+
 -- R10.5: refused with a, after the frame `last`
 abbrev pub halted : Answer → Stepped → List Float → List Float → List Float → NextLeft
-halted a last store work output = record { next = record { answer = a; frame = last }; store = store; work = work; output = output }
+halted a last store work output = record { next = with_value a last; store = store; work = work; output = output }
 
 -- R10.4: 8 where its input isn't finite, 9 where it comes to what isn't, and else kept
 unfoldable pub next_frame : ℕ → List ℕ → Stepped → List Filter → List Float → List Float → List Float → List Float → NextLeft
@@ -68,12 +77,12 @@ next_frame f ls last fs input store work output =
     accept due
     (cond (frame_finite x)
     (record {
-      next = record { answer = Accepted; frame = stepped_on f r true (new_filters x) };
+      next = Ok (stepped_on f r true (new_filters x));
       store = settled wall.lines f r x.lines.put x.output.rings store;
       work = cleared work;
       output = x.output.out;
     })
-    (halted NotFinite last store (cleared work) output))
+    (halted (Err NotFinite) last store (cleared work) output))
     (halted due last store work output)
 
 -- R10.4: all of them, each as an apply

@@ -19,22 +19,22 @@ pub fn filters_of(coefficients: &[f32]) -> [Filter; FILTERS]
 }
 
 // The filters of as many coefficients as they have, with no history.
+// Kept (3): zipped with the coefficients, `iter_mut` leaves no proof of what was written.
 fn filters_from(coefficients: &[f32]) -> [Filter; FILTERS]
     requires { length coefficients.now ≡ coefficients_len wall }
     ensures { result ≡ filters_of (filters_len wall) coefficients.now }
 {
     let blank = iir::new_from_coefficients(0.0, 0.0, 0.0, 0.0, 0.0);
     let mut fs = [blank; FILTERS];
-    let mut k = 0usize;
-    for i in 0..FILTERS {
-        fs[i] = iir::new_from_coefficients(
+    for (i, f) in fs.iter_mut().enumerate() {
+        let k = PER_FILTER * i;
+        *f = iir::new_from_coefficients(
             coefficients[k],
             coefficients[k + 1],
             coefficients[k + 2],
             coefficients[k + 3],
             coefficients[k + 4],
         );
-        k += PER_FILTER;
     }
     fs
 }

@@ -20,7 +20,7 @@ use crate::units::whole_frame;
 use bands::{Times, fallen, tail_count};
 pub use filters::filters_of;
 use judges::{judge_apply, judge_frames, judge_fresh, judge_reset, judge_tail};
-use samples::{Frames, LOWEST_RATE, SHORTEST_FRAME, clear, is_accepted};
+use samples::{Frames, LOWEST_RATE, SHORTEST_FRAME, clear};
 use unit::{FramesOutcome, Outcome, State, fresh_state, quiet};
 
 // A unit in which nothing has sounded yet, and its store cleared (R2.20, R4.24).
@@ -28,13 +28,11 @@ pub fn fresh(rate: u32, frame: usize, store: &mut [f32]) -> Outcome
     ensures value { result ≡ outcome_of (begun wall rate frame store.old) }
     ensures store_after { store.new ≡ (begun wall rate frame store.old).memory.store }
 {
-    let answer = judge_fresh(rate, frame, store.len());
-    if !is_accepted(answer) {
-        let state = fresh_state(LOWEST_RATE, SHORTEST_FRAME);
-        return quiet(answer, state);
+    if let Err(refusal) = judge_fresh(rate, frame, store.len()) {
+        return quiet(Err(refusal), fresh_state(LOWEST_RATE, SHORTEST_FRAME));
     }
     clear(store);
-    quiet(answer, fresh_state(rate, frame))
+    quiet(Ok(()), fresh_state(rate, frame))
 }
 
 // Silences the unit: its store is cleared and no tail is left. Cursors and filters
@@ -43,15 +41,13 @@ pub fn reset(s: State, store: &mut [f32]) -> Outcome
     ensures value { result ≡ outcome_of (silenced wall (lend s store.old [])) }
     ensures store_after { store.new ≡ (silenced wall (lend s store.old [])).memory.store }
 {
-    let answer = judge_reset(s, store.len());
-    if !is_accepted(answer) {
-        return quiet(answer, s);
+    if let Err(refusal) = judge_reset(s, store.len()) {
+        return quiet(Err(refusal), s);
     }
     clear(store);
-    let none = Frames(0);
     let mut t = s;
-    t.count = none;
-    quiet(answer, t)
+    t.count = Frames(0);
+    quiet(Ok(()), t)
 }
 
 // A frame of input: the lines sound through filters of the given coefficients, the input is added to
@@ -70,7 +66,7 @@ pub fn apply(
     ensures work_after { work.new ≡ (at_once wall (lend s store.old work.old) (Play.apply t coefficients.now input.now) output.old).memory.work }
     ensures output_after { output.new ≡ (at_once wall (lend s store.old work.old) (Play.apply t coefficients.now input.now) output.old).output }
 {
-    let answer = judge_apply(
+    let due = judge_apply(
         s,
         t,
         coefficients,
@@ -79,15 +75,13 @@ pub fn apply(
         work.len(),
         output.len(),
     );
-    if !is_accepted(answer) {
-        return quiet(answer, s);
+    if let Err(refusal) = due {
+        return quiet(Err(refusal), s);
     }
-    let rate = s.rate;
-    let f = s.frame;
-    let tail = tail_count(t, rate, f);
+    let count = tail_count(t, s.rate, s.frame).count;
     let fs = filters_of(coefficients);
-    stages::copy(input, &mut work[0..f]);
-    whole_frame(s, false, fs, tail.count, store, work, output)
+    stages::copy(input, &mut work[0..s.frame]);
+    whole_frame(s, false, fs, count, store, work, output)
 }
 
 // Up to 1,024 frames of input, as the same applies made singly, with one set of times and coefficients. It
@@ -106,7 +100,7 @@ pub fn apply_frames(
     ensures work_after { work.new ≡ (several wall (lend s store.old work.old) t coefficients.now input.now output.old).ending.memory.work }
     ensures output_after { output.new ≡ (several wall (lend s store.old work.old) t coefficients.now input.now output.old).ending.output }
 {
-    let answer = judge_frames(
+    let due = judge_frames(
         s,
         t,
         coefficients,
@@ -115,9 +109,9 @@ pub fn apply_frames(
         work.len(),
         output.len(),
     );
-    if !is_accepted(answer) {
+    if let Err(refusal) = due {
         return FramesOutcome {
-            outcome: quiet(answer, s),
+            outcome: quiet(Err(refusal), s),
             done: Frames(0),
         };
     }
@@ -132,11 +126,8 @@ pub fn tail(s: State, store: &mut [f32], work: &mut [f32], output: &mut [f32]) -
     ensures work_after { work.new ≡ (at_once wall (lend s store.old work.old) Play.tail output.old).memory.work }
     ensures output_after { output.new ≡ (at_once wall (lend s store.old work.old) Play.tail output.old).output }
 {
-    let answer = judge_tail(s, store.len(), work.len(), output.len());
-    if !is_accepted(answer) {
-        return quiet(answer, s);
+    if let Err(refusal) = judge_tail(s, store.len(), work.len(), output.len()) {
+        return quiet(Err(refusal), s);
     }
-    let fs = s.filters;
-    let count = s.count;
-    whole_frame(s, true, fs, fallen(count), store, work, output)
+    whole_frame(s, true, s.filters, fallen(s.count), store, work, output)
 }

@@ -1,7 +1,7 @@
 // Several frames of input at once: the same applies made singly, judged once by 1 to 7, and with the
 // state copied once in and once out.
 ghost use Rattle.std.specs.Prelude.{◌≡◌, true, ◌+◌, ◌≤◌, length, take, drop};
-ghost use Rattle.samples.specs.declared.Answer.TheVariants.{Accepted};
+ghost use Rattle.samples.specs.Answers.{Accepted};
 ghost use Rattle.unit.specs.UnitState.{of_state};
 ghost use Rattle.unit.specs.Layout.{wall};
 ghost use Rattle.unit.specs.Room.{room_ok};
@@ -16,21 +16,14 @@ use bands::{Times, tail_count};
 use frame::{Stepped, run_frame};
 use iir::Filter;
 use judges::{frame_count, judge_input};
-use samples::{Answer, Frames, is_accepted};
+use samples::{Answer, Frames, Refusal, need};
 use unit::{
     AllpassRings, FILTERS, FramesOutcome, LINES, LineRings, Outcome, PASS_LENGTHS, Rings, State,
     lengths, quiet,
 };
 
-// What a frame among several came to: its answer, and what the unit keeps then.
-#[derive(Clone, Copy)]
-pub(crate) struct Next {
-    pub(crate) answer: Answer,
-    pub(crate) frame: Stepped,
-}
-
 // The frame of several whose input begins at `at`, with the filters `fs` and on lines' rings of the lengths
-// `ls`, from where the frame before it left them. Refused with 8 or 9, what that one came to is handed back.
+// `ls`, from where the frame before it left them. Refused with 8 or 9, it gives none.
 fn next_frame(
     f: usize,
     at: usize,
@@ -41,7 +34,7 @@ fn next_frame(
     store: &mut [f32],
     work: &mut [f32],
     output: &mut [f32],
-) -> Next
+) -> Result<Stepped, Refusal>
     requires room { room_ok wall f (rings_at ls last) (length store.old) (length work.old) (length output.old) ≡ true }
     requires frame_lent { (at + f ≤ length input.now) × (f ≤ length work.old) }
     ensures value { result ≡ (next_frame f ls last fs (take f (drop at input.now)) store.old work.old output.old).next }
@@ -50,33 +43,18 @@ fn next_frame(
     ensures output_after { output.new ≡ (next_frame f ls last fs (take f (drop at input.now)) store.old work.old output.old).output }
 {
     let end = at + f;
-    let due = judge_input(&input[at..end]);
-    if !is_accepted(due) {
-        return Next {
-            answer: due,
-            frame: last,
-        };
-    }
+    judge_input(&input[at..end])?;
     stages::copy(&input[at..end], &mut work[0..f]);
     let frame = run_frame(f, rings_at(ls, last), false, fs, store, work, output);
-    if !frame.ok {
-        return Next {
-            answer: Answer::NotFinite,
-            frame: last,
-        };
-    }
-    Next {
-        answer: Answer::Accepted,
-        frame,
-    }
+    need(frame.ok, Refusal::NotFinite)?;
+    Ok(frame)
 }
 
 // The rings as a frame left them, those of the lines of the lengths `ls`.
 fn rings_at(ls: [usize; LINES], last: Stepped) -> Rings
     ensures { result ≡ rings_at ls last }
 {
-    let lines = last.lines;
-    let passes = last.passes;
+    let Stepped { lines, passes, .. } = last;
     Rings {
         lines: LineRings {
             lengths: ls,
@@ -106,38 +84,36 @@ pub(crate) fn play_frames(
     ensures work_after { work.new ≡ (playing_all s t coefficients.now input.now store.old work.old output.old).ending.memory.work }
     ensures output_after { output.new ≡ (playing_all s t coefficients.now input.now store.old work.old output.old).ending.output }
 {
-    let rate = s.rate;
     let f = s.frame;
     let n = frame_count(f, input.len());
     let ls = lengths(s);
     let fs = filters_of(coefficients);
-    let tail = tail_count(t, rate, f);
+    let tail = tail_count(t, s.rate, f).count;
     let mut count = s.count;
     let mut last = kept_by(s);
-    let mut done = 0usize;
-    let mut at = 0usize;
-    while done < n {
+    // Kept (3): an outcome says how many frames are done, and std says nothing of what `chunks_mut` leaves.
+    for done in 0..n {
+        let at = done * f;
         let e = at + f;
-        let x = next_frame(f, at, ls, last, fs, input, store, work, &mut output[at..e]);
-        let answer = x.answer;
-        if !is_accepted(answer) {
-            return several_by(s, answer, last, count, done);
+        match next_frame(f, at, ls, last, fs, input, store, work, &mut output[at..e]) {
+            Ok(frame) => last = frame,
+            Err(refusal) => return several_by(s, Err(refusal), last, count, done),
         }
-        last = x.frame;
-        count = tail.count;
-        at = e;
-        done += 1;
+        count = tail;
     }
-    several_by(s, Answer::Accepted, last, count, done)
+    several_by(s, Ok(()), last, count, n)
 }
 
 // What a unit keeps, as if a frame had come to it.
 fn kept_by(s: State) -> Stepped
     ensures { result ≡ record { ok = true; filters = s.filters; lines = s.lines; passes = s.passes } }
 {
-    let filters = s.filters;
-    let lines = s.lines;
-    let passes = s.passes;
+    let State {
+        filters,
+        lines,
+        passes,
+        ..
+    } = s;
     Stepped {
         ok: true,
         filters,
@@ -146,26 +122,23 @@ fn kept_by(s: State) -> Stepped
     }
 }
 
-// The outcome of several frames of which so many are done, the last of them as `last` and with the tail
-// counted.
+// The outcome of several frames of which so many are done, the last of them as `last`, and `count` of the
+// tail still to come.
 fn several_by(s: State, answer: Answer, last: Stepped, count: Frames, done: usize) -> FramesOutcome
     requires { done ≤ most_frames }
     ensures { result ≡ several_by (of_state s) answer last count.0 done }
 {
     let state = moved_on(s, last, count);
-    let frames = Frames(done as i32);
-    if is_accepted(answer) {
-        return FramesOutcome {
-            outcome: Outcome {
-                answer,
-                verdict: verdict(count),
-                state,
-            },
-            done: frames,
-        };
-    }
+    let outcome = match answer {
+        Ok(()) => Outcome {
+            answer,
+            verdict: verdict(count),
+            state,
+        },
+        Err(_) => quiet(answer, state),
+    };
     FramesOutcome {
-        outcome: quiet(answer, state),
-        done: frames,
+        outcome,
+        done: Frames(done as i32),
     }
 }

@@ -9,7 +9,7 @@ ghost use Rattle.reverb.specs.Workers.{unit_stepped, played_by, playing};
 use audio_buffer::verdict;
 use frame::{Stepped, run_frame};
 use iir::Filter;
-use samples::{Answer, Frames};
+use samples::{Frames, Refusal};
 use unit::{FILTERS, Outcome, State, quiet, rings_of};
 
 // The unit after an accepted frame: its rings moved on, and the frame's filters and count.
@@ -32,10 +32,10 @@ pub(crate) fn conclude(s: State, frame: Stepped, count: Frames) -> Outcome
     ensures { result ≡ played_by (of_state s) frame count.0 }
 {
     if !frame.ok {
-        return quiet(Answer::NotFinite, s);
+        return quiet(Err(Refusal::NotFinite), s);
     }
     Outcome {
-        answer: Answer::Accepted,
+        answer: Ok(()),
         verdict: verdict(count),
         state: moved_on(s, frame, count),
     }
@@ -58,7 +58,6 @@ pub(crate) fn whole_frame(
     ensures work_after { work.new ≡ (playing s tail fs count.0 store.old work.old output.old).memory.work }
     ensures output_after { output.new ≡ (playing s tail fs count.0 store.old work.old output.old).output }
 {
-    let f = s.frame;
-    let r = run_frame(f, rings_of(s), tail, fs, store, work, output);
+    let r = run_frame(s.frame, rings_of(s), tail, fs, store, work, output);
     conclude(s, r, count)
 }

@@ -8,9 +8,7 @@ use lib.Ieee.{Float}
 use lib.ListN.{length, take, drop, length-append, length-drop, take-append-drop}
 use lib.Seq.{take_at, drop_at, length-take-le}
 use borrow.Rule.Slice.PartMut.{put_mid}
-use Rattle.samples.specs.declared.Answer.{Answer}
-use Rattle.samples.specs.declared.Answer.TheVariants.{Accepted}
-use Rattle.samples.specs.Answers.{accept}
+use Rattle.samples.specs.Answers.{Answer, Accepted, accept}
 use Rattle.samples.proofs.Lists.{part_long, to_end, last_part}
 use Rattle.hadamard.specs.Rows.{mixed_rows, judged_rows, rows_mixed}
 use Rattle.hadamard.proofs.Laws.{rows_accepted, rows_joined}

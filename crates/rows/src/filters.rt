@@ -16,10 +16,11 @@ fn three_of(k: usize, fs: [Filter; FILTERS]) -> Bands
     requires { k + 2 < filters_len wall }
     ensures { result ≡ three k fs }
 {
-    let f0 = fs[k];
-    let f1 = fs[k + 1];
-    let f2 = fs[k + 2];
-    Bands { f0, f1, f2 }
+    Bands {
+        f0: fs[k],
+        f1: fs[k + 1],
+        f2: fs[k + 2],
+    }
 }
 
 // The filters with three others from k on.
@@ -27,13 +28,10 @@ fn with_three(k: usize, b: Bands, fs: [Filter; FILTERS]) -> [Filter; FILTERS]
     requires { k + 2 < filters_len wall }
     ensures { result ≡ over k (three_of b) fs }
 {
-    let f0 = b.f0;
-    let f1 = b.f1;
-    let f2 = b.f2;
     let mut gs = fs;
-    gs[k] = f0;
-    gs[k + 1] = f1;
-    gs[k + 2] = f2;
+    gs[k] = b.f0;
+    gs[k + 1] = b.f1;
+    gs[k + 2] = b.f2;
     gs
 }
 
@@ -70,6 +68,7 @@ fn twelve_at(k: usize, fs: [Filter; FILTERS], rows: &mut [f32]) -> [Filter; FILT
 
 // Filters n rows, each by its line's three bands, and gives the filters after them. Four lines go side
 // by side while as many are left.
+// Kept (3): the step is four lines or one. `chunks_mut` has one step, and std says nothing of what it leaves.
 pub(crate) fn band_lines(
     n: usize,
     f: usize,

@@ -3,6 +3,9 @@
 //
 // Its contracts cite `specs/`: how the rows of a frame lie, what the steps ask of the memory lent, and
 // what they leave of it.
+//
+// Kept (5): the lines n and the samples f of a row stay two numbers. The definitions take them so, and a clause would name both through a struct.
+// `WorkFits` is of f and of a slice that is lent.
 #![tactic(auto)]
 
 mod filters;
@@ -25,7 +28,6 @@ pub use filters::three_at;
 pub use fits::{output_fits, work_for};
 use iir::Filter;
 pub use reads::read_line;
-use samples::and;
 use unit::{BANDS, FILTERS, LINES, work_places};
 
 // Steps 3 and 4 of n lines: `rows` are the input and n rows read, and after them come n to put. Gives
@@ -61,10 +63,9 @@ fn lines_in(
     ensures rows_after { rows.new ≡ take f rows.old ++ (take (n * f) (drop f rows.old) ++ (lines_in n f factor tail fs rows.old).put) }
 {
     let p = work_places(n, f);
-    let reads = p.reads;
-    let mixed = p.mixed;
-    mixer::mix_rows(n, factor, &mut rows[reads..]);
-    let gs = band_lines(n, f, fs, &mut rows[mixed..]);
+    // The rows are those of n lines, twice: nothing is refused.
+    let _ = mixer::mix_rows(n, factor, &mut rows[p.reads..]);
+    let gs = band_lines(n, f, fs, &mut rows[p.mixed..]);
     add_unless(tail, n, f, rows);
     gs
 }
@@ -81,7 +82,7 @@ pub fn make_line(
     ensures value { result ≡ line_ends wall f i fs (ltb i wall.lines && work_for wall f (length work.old)) work.old }
     ensures work_after { work.new ≡ line_laid wall f i tail fs (ltb i wall.lines && work_for wall f (length work.old)) work.old }
 {
-    if !and(i < LINES, work_for(f, work.len())) {
+    if !((i < LINES) & work_for(f, work.len())) {
         return fs;
     }
     wall_line(i, f, tail, fs, work)

@@ -6,7 +6,6 @@ ghost use Rattle.rows.specs.Workers.{WorkFits};
 ghost use Rattle.rows.specs.Reads.{read_laid, line_room};
 
 use crate::fits::work_for;
-use samples::and;
 use unit::{LINES, Rings, is_store, ring_place, rings_hold, work_places};
 
 // Step 2 of line i: reads its row into the work memory. Nothing is done where there is no line i, where a
@@ -26,8 +25,7 @@ pub fn read_line(i: usize, f: usize, rings: Rings, store: &[f32], work: &mut [f3
 fn line_room(i: usize, f: usize, ls: [usize; LINES], store: usize, work: usize) -> bool
     ensures { result ≡ line_room wall f ls i store work }
 {
-    let rings = and(rings_hold(f, ls), is_store(ls, store));
-    and(i < LINES, and(work_for(f, work), rings))
+    (i < LINES) & (work_for(f, work) & (rings_hold(f, ls) & is_store(ls, store)))
 }
 
 // The same on memory that is.

@@ -8,6 +8,7 @@ ghost use Rattle.stages.specs.Steps.{added_first};
 use unit::work_places;
 
 // Adds the input to each mixed row. `rows` are the input, the n rows read and the n mixed.
+// Kept (3): each row is lent with the input in front of it, so that the slices overlap, and `chunks_mut` lends none that do.
 pub(crate) fn add_lines(n: usize, f: usize, rows: &mut [f32])
     requires { (n ≤ wall.lines) × (f ≤ longest_ring) × (length rows.old ≡ (places_of n f).output) }
     ensures { rows.new ≡ take (places_of n f).mixed rows.old ++ add_rows f n (take f rows.old) (drop (places_of n f).mixed rows.old) }

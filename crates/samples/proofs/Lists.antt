@@ -6,8 +6,8 @@ use Prim.Native.Nat.{ℕ, zero, suc, ◌+◌, ◌-◌, ◌≤◌, ◌<◌}
 use native.Mathlib.Nat.{zero-add, add-zero, suc-add, add_assoc, sub-zero}
 use native.Mathlib.Numerals.{add-one}
 use native.Mathlib.Omega.{arith}
-use lib.ListN.{length, get_or, take, drop, set, length-append, length-take, length-drop, take-append-drop, drop_of_length-le}
-use lib.Seq.{take-nil, drop-nil, take_all, take_at, drop_at, take-take, take-add, drop-drop, take-append-le, drop-append-le, take-set-lt, drop-set-lt, set_split, set-append_left, get_or-take, get_or-drop, length-take-le}
+use lib.ListN.{length, take, drop, set, length-append, length-take, length-drop, take-append-drop, drop_of_length-le}
+use lib.Seq.{take-nil, drop-nil, take_all, take_at, drop_at, take-take, take-add, drop-drop, take-append-le, drop-append-le, set_split, length-take-le}
 use borrow.Rule.Slice.PartMut.{put_mid}
 use Rattle.samples.specs.Lists.{over}
 use Rattle.samples.proofs.Turns.{back, lent, middle}
@@ -97,13 +97,6 @@ module _ {A : Type 0} (a : ℕ) (w : List A) where
     over_front m g =
         take-append-le m (take a w) (ys ++ drop (a + length ys) w) (omega (arith, length-take-le a w h)) ∙ take-take m a w g
 
-    -- a store there
-    pub over-set : (i : ℕ) (v : A) → i < a → set (over a ys w) i v ≡ over a ys (set w i v)
-    unfolding over
-    over-set i v g =
-        rw (take-set-lt a w i v g, drop-set-lt (a + length ys) w i v (omega arith))
-        (set-append_left (take a w) (ys ++ drop (a + length ys) w) i v (omega (arith, length-take-le a w h)))
-
 module _ {A : Type 0} (ys : List A) where
   -- after p
   pub over-after : (a j : ℕ) (p q : List A) → length p ≡ a → over (a + j) ys (p ++ q) ≡ p ++ over j ys q
@@ -162,20 +155,6 @@ module _ {A : Type 0} (a : ℕ) (w : List A) (k : ℕ) (ys : List A) (e : length
     unfolding over
     over_here =
         rw (drop_at (take a w) (ys ++ drop (a + length ys) w) a (length-take-le a w (omega arith))) (take_at ys (drop (a + length ys) w) k e)
-
-    -- what stands before them, in them and after them
-    pub before_at : (i : ℕ) (z : A) → i < a → get_or (over a ys w) i z ≡ get_or w i z
-    before_at i z g = rw (← get_or-take a (over a ys w) i z g, over_front a w ys (omega arith) a (omega arith)) (get_or-take a w i z g)
-
-    pub inside_at : (i : ℕ) (z : A) → i < k → get_or (over a ys w) (a + i) z ≡ get_or ys i z
-    inside_at i z g =
-        sym (get_or-drop a (over a ys w) i z) ∙ sym (get_or-take k (drop a (over a ys w)) i z g) ∙ ap (λ (l : List A). get_or l i z) over_here
-
-    pub after_at : (i : ℕ) (z : A) → a + k ≤ i → get_or (over a ys w) i z ≡ get_or w i z
-    after_at i z g =
-        let past : a + k + (i - (a + k)) ≡ i = omega arith in
-        let there = ap (λ (l : List A). get_or l (i - (a + k)) z) over-left in
-        rw (get_or-drop (a + k) (over a ys w), get_or-drop (a + k) w, past) at there
 
     -- q in their place
     pub over_again : (q : List A) → length q ≡ k → over a q (over a ys w) ≡ over a q w

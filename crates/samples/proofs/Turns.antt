@@ -1,15 +1,15 @@
--- Loops over lists: one turn and the end of a loop that changes a list in place, copies one over another, or fills one; and a part of a
+-- Loops over lists: one turn and the end of a loop that changes a list in place, and one that copies one over another; and a part of a
 -- list that was lent and has come back. One law each, over the type of the elements. Assumes nothing.
 use mathlib.Core.Path.{◌≡◌, refl, ap, ◌∙◌}
 use mathlib.Core.Bool.{Bool, true, false}
 use mathlib.Core.Logic.{◌⊎◌, inl, inr}
 use mathlib.Core.List.{List, [], ◌∷◌, ◌++◌, append-nil}
-use Prim.Native.Nat.{ℕ, zero, suc, ◌+◌, ◌-◌, ◌≤◌, ◌<◌}
+use Prim.Native.Nat.{ℕ, suc, ◌+◌, ◌-◌, ◌≤◌, ◌<◌}
 use native.Mathlib.Nat.{le-add_right, add-sub_cancel_left}
 use native.Mathlib.Numerals.{add-one, lt-add-one}
 use native.Mathlib.Omega.{arith}
 use lib.Dec.{ltb}
-use lib.ListN.{length, get_or, take, drop, set, replicate, length-replicate, drop_of_length-le}
+use lib.ListN.{length, get_or, take, drop, set, drop_of_length-le}
 use lib.Seq.{take-suc-set, drop-set-lt, take-suc, drop-cons, append_snoc, take_all, length-take-le, set_at, take_at, drop_at}
 use borrow.Author.Tests.{ltb-true, ltb-false}
 use borrow.Rule.Slice.PartMut.{put_mid, mid_of, Post-is}
@@ -56,23 +56,6 @@ module _ {A : Type 0} (s d : List A) (i : ℕ) where
   copy_all h e =
       let hd : length d ≤ i = omega arith in
       rw (take_all i s, drop_of_length-le d, append-nil) refl
-
--- ---- a loop that fills d with v from the front
-
-one_more : {A : Type 0} (v : A) (n : ℕ) (xs : List A) → replicate n v ++ (v ∷ xs) ≡ replicate (suc n) v ++ xs
-one_more v zero xs = refl
-one_more v (suc n) xs = ap (λ (l : List _). v ∷ l) (one_more v n xs)
-
-module _ {A : Type 0} (d : List A) (v : A) (i : ℕ) where
-  pub fill_more : i < length d → set (replicate i v ++ drop i d) i v ≡ replicate (i + 1) v ++ drop (i + 1) d
-  fill_more h =
-      let l : length (replicate i v) ≡ i = length-replicate i v in
-      rw (drop-cons d i v h, add-one) (set_at (replicate i v) (get_or d i v) (drop (suc i) d) v i l ∙ one_more v i (drop (suc i) d))
-
-  pub fill_all : length d ≤ i → i ≤ length d → replicate i v ++ drop i d ≡ replicate (length d) v
-  fill_all h k =
-      let e : i ≡ length d = omega arith in
-      rw (drop_of_length-le d h, append-nil, e)
 
 -- ---- a part that was lent, `&mut w[a..e]`, and has come back
 

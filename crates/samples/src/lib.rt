@@ -5,9 +5,9 @@
 // rate and frame, and the combinators by which every other crate says what a call leaves.
 #![tactic(auto)]
 
-ghost use Rattle.std.specs.Prelude.{◌≡◌, ◌&&◌, length, replicate};
+ghost use Rattle.std.specs.Prelude.{◌≡◌, length, replicate};
 ghost use Rattle.samples.specs.Binary32.{+0, finite, plus_zero};
-ghost use Rattle.samples.specs.Answers.{number_of, index_of, accepted, need};
+ghost use Rattle.samples.specs.Answers.{number_of, index_of, Accepted, need};
 ghost use Rattle.samples.specs.Sizes.{rate_ok, frame_ok};
 
 // A position in a ring, or a distance, counted in samples (R1.6).
@@ -20,10 +20,9 @@ pub struct Samples(pub usize);
 #[derive(Clone, Copy)]
 pub struct Frames(pub i32);
 
-// What a call answers. `number_of` gives each case its number (R2.10 to R2.19).
-#[derive(Clone, Copy)]
-pub enum Answer {
-    Accepted,
+// Why a call is refused. `number_of` gives each case its number (R2.11 to R2.19).
+#[derive(Clone, Copy, Debug, PartialEq, Eq)]
+pub enum Refusal {
     BadState,
     BadSize,
     BadLength,
@@ -34,6 +33,9 @@ pub enum Answer {
     BadSample(usize),
     NotFinite,
 }
+
+// What a call answers (R2.10).
+pub type Answer = Result<(), Refusal>;
 
 // The lowest rate and the highest, in samples a second.
 pub const LOWEST_RATE: u32 = 8000;
@@ -46,88 +48,54 @@ pub const SHORTEST_FRAME: usize = 4;
 pub const LONGEST_FRAME: usize = 1024;
 
 // The number of an answer (R2.1).
+// Kept (4): the number is C's, and an enum of which one case carries an index has none to cast.
 pub fn number(a: Answer) -> u32
     ensures { result ≡ number_of a }
 {
     match a {
-        Answer::Accepted => 0,
-        Answer::BadState => 1,
-        Answer::BadSize => 2,
-        Answer::BadLength => 3,
-        Answer::BadIndex => 4,
-        Answer::OutOfTurn => 5,
-        Answer::BadTime => 6,
-        Answer::BadCoefficient => 7,
-        Answer::BadSample(_) => 8,
-        Answer::NotFinite => 9,
+        Ok(()) => 0,
+        Err(Refusal::BadState) => 1,
+        Err(Refusal::BadSize) => 2,
+        Err(Refusal::BadLength) => 3,
+        Err(Refusal::BadIndex) => 4,
+        Err(Refusal::OutOfTurn) => 5,
+        Err(Refusal::BadTime) => 6,
+        Err(Refusal::BadCoefficient) => 7,
+        Err(Refusal::BadSample(_)) => 8,
+        Err(Refusal::NotFinite) => 9,
     }
 }
 
 // The index that an answer carries, 0 where it carries none (R2.9).
+// Kept (4): it is one of two parts that C is answered, and no conversion of the whole.
 pub fn index(a: Answer) -> usize
     ensures { result ≡ index_of a }
 {
     match a {
-        Answer::Accepted => 0,
-        Answer::BadState => 0,
-        Answer::BadSize => 0,
-        Answer::BadLength => 0,
-        Answer::BadIndex => 0,
-        Answer::OutOfTurn => 0,
-        Answer::BadTime => 0,
-        Answer::BadCoefficient => 0,
-        Answer::BadSample(i) => i,
-        Answer::NotFinite => 0,
+        Err(Refusal::BadSample(i)) => i,
+        _ => 0,
     }
 }
 
-// Whether a call was accepted (R2.10).
-pub fn is_accepted(a: Answer) -> bool
-    ensures { result ≡ accepted a }
+// A refusal where a test fails. A judge asks one test after the other, the least number first (R2.2).
+pub fn need(ok: bool, bad: Refusal) -> Answer
+    ensures { result ≡ need ok (Err bad) Accepted }
 {
-    match a {
-        Answer::Accepted => true,
-        Answer::BadState => false,
-        Answer::BadSize => false,
-        Answer::BadLength => false,
-        Answer::BadIndex => false,
-        Answer::OutOfTurn => false,
-        Answer::BadTime => false,
-        Answer::BadCoefficient => false,
-        Answer::BadSample(_) => false,
-        Answer::NotFinite => false,
-    }
-}
-
-// The answer `bad` where a test fails, else what the later tests say (R2.2).
-pub fn need(ok: bool, bad: Answer, rest: Answer) -> Answer
-    ensures { result ≡ need ok bad rest }
-{
-    if ok { rest } else { bad }
-}
-
-// Both tests, each made whatever the other says (R2.3): a judge has one way through it.
-pub fn and(a: bool, b: bool) -> bool
-    ensures { result ≡ (a && b) }
-{
-    if a { b } else { false }
+    if ok { Ok(()) } else { Err(bad) }
 }
 
 // Whether the unit runs at a rate (R1.1).
 pub fn rate_ok(rate: u32) -> bool
     ensures { result ≡ rate_ok rate }
 {
-    and(LOWEST_RATE <= rate, rate <= HIGHEST_RATE)
+    (LOWEST_RATE <= rate) & (rate <= HIGHEST_RATE)
 }
 
 // Whether the unit takes frames of that many samples (R1.2).
 pub fn frame_ok(frame: usize) -> bool
     ensures { result ≡ frame_ok frame }
 {
-    and(
-        SHORTEST_FRAME <= frame,
-        and(frame <= LONGEST_FRAME, frame % 4 == 0),
-    )
+    (SHORTEST_FRAME <= frame) & ((frame <= LONGEST_FRAME) & (frame % 4 == 0))
 }
 
 // Whether a sample is a finite number (R3.4).
@@ -142,14 +110,12 @@ pub fn is_finite(x: f32) -> bool
 pub fn is_plus_zero(x: f32) -> bool
     ensures { result ≡ plus_zero x }
 {
-    if x == 0.0 { 0.0 < 1.0 / x } else { false }
+    x == 0.0 && 0.0 < 1.0 / x
 }
 
 // Sets every sample to +0 (R3.3).
 pub fn clear(xs: &mut [f32])
     ensures { xs.new ≡ replicate (length xs.old) +0 }
 {
-    for i in 0..xs.len() {
-        xs[i] = 0.0;
-    }
+    xs.fill(0.0);
 }

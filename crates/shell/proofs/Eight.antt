@@ -8,9 +8,7 @@ use native.Mathlib.Omega.{arith}
 use lib.Dec.{ltb, leb, eqb}
 use lib.Ieee.{Float, nan, inf, binary32, prec, low, hid, odd, of_fields, of_bits, le}
 use borrow.Author.Tests.{lt-ltb, le-ltb, eq-eqb, ne_eqb}
-use Rattle.samples.specs.declared.Answer.{Answer}
-use Rattle.samples.specs.declared.Answer.TheVariants.{Accepted}
-use Rattle.samples.specs.Answers.{or_else}
+use Rattle.samples.specs.Answers.{Answer, Accepted, or_else}
 use Rattle.samples.specs.Binary32.{finite}
 use Rattle.search.specs.Search.{first_bad, all_finite}
 use Rattle.samples.proofs.Turns.{lt_or_ge}

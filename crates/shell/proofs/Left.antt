@@ -4,8 +4,7 @@ use mathlib.Core.Bool.{Bool, true, false}
 use mathlib.Core.List.{List}
 use lib.Ieee.{Float}
 use lib.ListN.{length, replicate}
-use Rattle.samples.specs.declared.Answer.{Answer}
-use Rattle.samples.specs.Answers.{accept, or_else}
+use Rattle.samples.specs.Answers.{Answer, accept, or_else}
 use Rattle.samples.specs.Binary32.{+0}
 use Rattle.samples.proofs.Laws.{accept_no, accept_either}
 use Rattle.unit.specs.UnitState.{UnitState}

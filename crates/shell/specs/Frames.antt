@@ -1,7 +1,6 @@
 -- One frame of the program: from the bytes read to the bytes written (R9.4 to R9.9).
 use Rattle.std.specs.Prelude.{List, ℕ, ◌*◌, Float, replicate}
-use Rattle.samples.specs.declared.Answer.{Answer}
-use Rattle.samples.specs.Answers.{accept}
+use Rattle.samples.specs.Answers.{Answer, accept}
 use Rattle.samples.specs.Binary32.{+0}
 use Rattle.wire.specs.Wire.{decoded, encoded}
 use Rattle.unit.specs.UnitState.{UnitState}

@@ -2,8 +2,7 @@
 use Rattle.std.specs.Prelude.{◌≡◌, List, [], ◌∷◌, ℕ, ◌%◌, ltb, Float, length}
 use Rattle.std.specs.Float.{binary32}
 use Rattle.std.specs.Float.Ieee.{of_bits}
-use Rattle.samples.specs.declared.Answer.TheVariants.{Accepted}
-use Rattle.samples.specs.Answers.{or_else}
+use Rattle.samples.specs.Answers.{Accepted, or_else}
 use Rattle.samples.specs.Binary32.{finite}
 use Rattle.search.specs.Search.{first_bad}
 use Rattle.unit.specs.UnitState.{UnitState}

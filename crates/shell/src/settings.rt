@@ -4,7 +4,7 @@ ghost use Rattle.std.specs.Prelude.{◌≡◌, cond, ◌&&◌, ◌*◌, ◌%◌,
 ghost use Rattle.std.specs.Float.{binary32};
 ghost use Rattle.std.specs.Float.Ieee.{of_bits};
 ghost use Rattle.samples.specs.Binary32.{+0};
-ghost use Rattle.samples.specs.declared.Answer.TheVariants.{Accepted};
+ghost use Rattle.samples.specs.Answers.{Accepted};
 ghost use Rattle.unit.specs.Layout.{wall, bands_len, filter_at};
 ghost use Rattle.unit.specs.Fresh.{fresh_unit};
 ghost use Rattle.unit.specs.Outcome.{outcome};
@@ -12,7 +12,7 @@ ghost use Rattle.audio_buffer.specs.declared.AudioEffectState.TheVariants.{TailC
 ghost use Rattle.shell.specs.Settings.{frame, rate, store_floats, times, coefficients, calls};
 
 use bands::Times;
-use samples::{Frames, and};
+use samples::Frames;
 use unit::{
     ALLPASS_FLOATS, BANDS, COEFFICIENTS, DELAYS_AND_RINGS, FILTERS, LINES, Outcome, PER_FILTER,
     ROWS, TONE,
@@ -51,7 +51,7 @@ pub fn times() -> Times
 fn b0(k: usize) -> f32
     ensures { result ≡ cond (ltb k (filter_at wall.lines) && eqb (k % bands_len) 0) (of_bits binary32 0x3f00_0000) (of_bits binary32 0x3f80_0000) }
 {
-    if and(k < TONE, k % BANDS == 0) {
+    if (k < TONE) & (k % BANDS == 0) {
         0.5
     } else {
         1.0
@@ -59,6 +59,7 @@ fn b0(k: usize) -> f32
 }
 
 // The coefficients of all filters, five each (R9.3).
+// Kept (3): of each five one is set. `chunks_mut` and `iter_mut().step_by(5)` go past the rest, and std says nothing of what they leave.
 pub fn coefficients() -> [f32; COEFFICIENTS]
     ensures { result ≡ coefficients }
 {

@@ -1,8 +1,7 @@
 -- What a frame leaves: which numbers 9 judges, what is put where, and how the cursors move.
-use Rattle.std.specs.Prelude.{ℕ, zero, suc, ◌+◌, ◌*◌, ◌%◌, ◌≡◌, Bool, ◌&&◌, List, [], ◌∷◌, ◌++◌, Float, length, get_or, take, drop}
-use Rattle.samples.specs.declared.Answer.{Answer}
-use Rattle.samples.specs.declared.Answer.TheVariants.{Accepted, NotFinite}
-use Rattle.samples.specs.Answers.{need}
+use Rattle.std.specs.Prelude.{ℕ, zero, suc, ◌+◌, ◌*◌, ◌%◌, ◌≡◌, Bool, ◌&&◌, List, [], ◌∷◌, ◌++◌, Float, length, get_or, take, drop, Err}
+use Rattle.samples.specs.declared.Refusal.TheVariants.{NotFinite}
+use Rattle.samples.specs.Answers.{Answer, Accepted, need}
 use Rattle.samples.specs.Lists.{all_from}
 use Rattle.search.specs.Search.{all_finite}
 use Rattle.delay.specs.declared.Cursors.{Cursors}
@@ -26,7 +25,7 @@ frame_finite r =
 
 -- R2.19: 9 unless all of it is finite
 abbrev pub nine_of : Frame → Answer
-nine_of r = need (frame_finite r) NotFinite Accepted
+nine_of r = need (frame_finite r) (Err NotFinite) Accepted
 
 -- R4.17, R4.18: the store after each row is put into its line, from line i on, with other allpass rings after the lines
 unfoldable pub put_rows : ℕ → ℕ → ℕ → List ℕ → List Cursors → List Float → List Float → List Float → List Float

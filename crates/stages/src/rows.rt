@@ -5,7 +5,6 @@ ghost use Rattle.stages.specs.Settle.{filters_finite};
 ghost use Rattle.stages.specs.Steps.{added_first, divided, copied};
 
 use iir::Filter;
-use samples::and;
 use unit::FILTERS;
 
 // Adds the first f samples of a stretch to its last f, where it has room for both (R4.8, R4.10).
@@ -19,12 +18,14 @@ pub fn add_first(rows: &mut [f32], f: usize)
 }
 
 // Adds the first f samples to the f from `at` on, which are the last.
+// Kept (3): zipped with the samples added, `iter_mut` leaves no proof of what was written.
 fn add_at(rows: &mut [f32], f: usize, at: usize)
     requires { (f ≤ at) × (at + f ≡ length rows.old) }
     ensures { rows.new ≡ take at rows.old ++ plus (drop at rows.old) (take f rows.old) }
 {
-    for t in 0..f {
-        rows[at + t] = rows[at + t] + rows[t];
+    let (front, last) = rows.split_at_mut(at);
+    for (t, x) in last.iter_mut().enumerate() {
+        *x += front[t];
     }
 }
 
@@ -32,8 +33,8 @@ fn add_at(rows: &mut [f32], f: usize, at: usize)
 pub fn divide(xs: &mut [f32], divisor: f32)
     ensures { xs.new ≡ divided divisor xs.old }
 {
-    for i in 0..xs.len() {
-        xs[i] = xs[i] / divisor;
+    for x in xs.iter_mut() {
+        *x /= divisor;
     }
 }
 
@@ -41,27 +42,13 @@ pub fn divide(xs: &mut [f32], divisor: f32)
 pub fn copy(src: &[f32], dst: &mut [f32])
     ensures { dst.new ≡ copied src.now dst.old }
 {
-    let n = shorter(src.len(), dst.len());
-    for i in 0..n {
-        dst[i] = src[i];
-    }
-}
-
-// The lesser of two lengths.
-fn shorter(a: usize, b: usize) -> usize
-    ensures { result ≡ min a b }
-{
-    if a < b { a } else { b }
+    let n = src.len().min(dst.len());
+    dst[..n].copy_from_slice(&src[..n]);
 }
 
 // Whether all numbers of all filters are finite (R4.14).
 pub fn filters_finite(fs: [Filter; FILTERS]) -> bool
     ensures { result ≡ filters_finite fs }
 {
-    let mut ok = true;
-    for i in 0..FILTERS {
-        let f = fs[i];
-        ok = and(ok, iir::is_finite(f));
-    }
-    ok
+    fs.iter().all(|f| iir::is_finite(*f))
 }

@@ -4,11 +4,15 @@ use Rattle.samples.specs.Lists.{all_from}
 use Rattle.samples.specs.Sizes.{frame_ok}
 use Rattle.delay.specs.declared.Cursors.{Cursors}
 use Rattle.delay.specs.Calls.{longest_ring}
-use Rattle.unit.specs.declared.AllpassRings.{AllpassRings}
+use Rattle.unit.specs.declared.RingsOf.{RingsOf}
 use Rattle.unit.specs.declared.Rings.{Rings}
 use Rattle.unit.specs.UnitState.{UnitState}
 use Rattle.unit.specs.Layout.{Model, lengths, store_len, work_len}
 use Rattle.unit.specs.Range.{cursors_in}
+
+-- the allpass rings, of which there are four
+abbrev pub AllpassRings : Type 0
+AllpassRings = RingsOf 4
 
 -- the model's allpass rings at the cursors cs
 abbrev pub passes_with : Model → List Cursors → AllpassRings

@@ -11,7 +11,7 @@ use crate::State;
 use crate::room::rings_hold;
 use delay::LONGEST_RING;
 use primes::DELAYS;
-use samples::{and, frame_ok};
+use samples::frame_ok;
 
 // The lines.
 pub const LINES: usize = 16;
@@ -75,8 +75,7 @@ pub const JOBS: usize = OUTPUT_MARK + 1;
 pub fn lengths(s: State) -> [usize; LINES]
     ensures { result ≡ cond (frame_ok s.frame) (lengths wall (of_state s)) (replicate wall.lines 0) }
 {
-    let frame = s.frame;
-    if !frame_ok(frame) {
+    if !frame_ok(s.frame) {
         return [0; LINES];
     }
     lengths_of(s)
@@ -88,8 +87,8 @@ fn lengths_of(s: State) -> [usize; LINES]
     ensures { result ≡ lengths wall (of_state s) }
 {
     let mut ls = [0usize; LINES];
-    for i in 0..LINES {
-        ls[i] = primes::delay(i) + s.frame;
+    for (i, l) in ls.iter_mut().enumerate() {
+        *l = primes::delay(i) + s.frame;
     }
     ls
 }
@@ -100,7 +99,7 @@ fn lengths_of(s: State) -> [usize; LINES]
 pub fn ring_place(i: usize, frame: usize, ls: [usize; LINES]) -> usize
     ensures { result ≡ cond (leb i wall.lines && rings_hold frame ls) (total (take i ls)) 0 }
 {
-    if !and(i <= LINES, rings_hold(frame, ls)) {
+    if !((i <= LINES) & rings_hold(frame, ls)) {
         return 0;
     }
     ring_start(i, ls)
@@ -111,11 +110,7 @@ fn ring_start(i: usize, ls: [usize; LINES]) -> usize
     requires { (i ≤ wall.lines) × (total ls ≤ wall.lines * longest_ring) }
     ensures { result ≡ total (take i ls) }
 {
-    let mut a = 0usize;
-    for j in 0..i {
-        a += ls[j];
-    }
-    a
+    ls[..i].iter().sum()
 }
 
 // Where the parts of a work memory begin that come after the input: the rows read, the rows mixed, the
@@ -133,7 +128,7 @@ pub struct Places {
 pub fn work_places(n: usize, f: usize) -> Places
     ensures { result ≡ cond (leb n wall.lines && leb f longest_ring) (places_of n f) (places_of 0 0) }
 {
-    if !and(n <= LINES, f <= LONGEST_RING) {
+    if !((n <= LINES) & (f <= LONGEST_RING)) {
         return places_of(0, 0);
     }
     places_of(n, f)

@@ -26,10 +26,11 @@ pub use layout::{
 pub use range::in_range;
 pub use room::{lent_ok, rings_hold, rings_of, room_ok};
 use samples::{Answer, Frames, Samples};
-pub use sizes::{is_store, store_ok, work_ok};
+pub use sizes::{is_store, is_total, store_ok, work_ok};
 
 // All that the unit keeps beside its store (R1.26). `busy` says that a frame is open; `tail`, `marks`,
 // `next` and `before` are held for that frame alone.
+// Kept (1): `busy` stands beside what is held, and no `Option` holds it: C is lent this struct.
 #[repr(C)]
 #[derive(Clone, Copy)]
 pub struct State {
@@ -46,19 +47,18 @@ pub struct State {
     pub before: [Filter; FILTERS],
 }
 
-// The rings of the lines.
+// Rings of one kind: their lengths, and the cursors of each.
+// Kept (6): two arrays and not one of pairs, as `unit: rings_with` and the definitions over it have lengths and cursors apart.
 #[derive(Clone, Copy)]
-pub struct LineRings {
-    pub lengths: [usize; LINES],
-    pub cursors: [Cursors; LINES],
+pub struct RingsOf<const N: usize> {
+    pub lengths: [usize; N],
+    pub cursors: [Cursors; N],
 }
 
-// The allpass rings.
-#[derive(Clone, Copy)]
-pub struct AllpassRings {
-    pub lengths: [usize; PASS_RINGS],
-    pub cursors: [Cursors; PASS_RINGS],
-}
+// The rings of the lines, and the allpass rings.
+pub type LineRings = RingsOf<LINES>;
+
+pub type AllpassRings = RingsOf<PASS_RINGS>;
 
 // The rings of a unit.
 #[derive(Clone, Copy)]
@@ -92,6 +92,7 @@ pub fn fresh_state(rate: u32, frame: usize) -> State
 }
 
 // What a call of the unit gives back: its answer, the verdict on the tail, and the state.
+// Kept (1): a refused call gives the state back too, `closing::close` another one than it was given (R2.30).
 #[derive(Clone, Copy)]
 pub struct Outcome {
     pub answer: Answer,
@@ -100,6 +101,7 @@ pub struct Outcome {
 }
 
 // What several frames at once give back: the outcome of a call, and how many frames were done.
+// Kept (1): where one is refused the frames before it are done, and the state is theirs (R10.5).
 #[derive(Clone, Copy)]
 pub struct FramesOutcome {
     pub outcome: Outcome,

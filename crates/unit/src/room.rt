@@ -6,22 +6,18 @@ ghost use Rattle.unit.specs.Layout.{wall};
 ghost use Rattle.unit.specs.Room.{rings_with, unit_rings, rings_hold, passes_are, lent_ok, room_ok};
 
 use crate::layout::{LINES, PASS_LENGTHS, PASS_RINGS, lengths};
-use crate::range::{cursors_in, passes_in};
+use crate::range::cursors_in;
 use crate::sizes::{is_store, store_ok, work_ok};
 use crate::{AllpassRings, LineRings, Rings, State};
 use delay::LONGEST_RING;
-use samples::{and, frame_ok};
+use samples::frame_ok;
 
 // Whether the store, the work memory and the output have the lengths that a unit asks (R1.19, R1.21,
 // R1.25).
 pub fn lent_ok(s: State, store: usize, work: usize, output: usize) -> bool
     ensures { result ≡ lent_ok wall (of_state s) store work output }
 {
-    let frame = s.frame;
-    and(
-        store_ok(s, store),
-        and(work_ok(frame, work), output == frame),
-    )
+    store_ok(s, store) & (work_ok(s.frame, work) & (output == s.frame))
 }
 
 // Whether rings of the lengths `ls` can hold a frame of `frame` samples, and none is too long for a
@@ -29,24 +25,14 @@ pub fn lent_ok(s: State, store: usize, work: usize, output: usize) -> bool
 pub fn rings_hold(frame: usize, ls: [usize; LINES]) -> bool
     ensures { result ≡ rings_hold frame ls }
 {
-    let mut ok = true;
-    for i in 0..LINES {
-        let l = ls[i];
-        ok = and(ok, and(frame <= l, l <= LONGEST_RING));
-    }
-    ok
+    ls.iter().all(|l| (frame <= *l) & (*l <= LONGEST_RING))
 }
 
 // Whether allpass rings have the unit's lengths.
 fn passes_are(ls: [usize; PASS_RINGS]) -> bool
     ensures { result ≡ passes_are wall ls }
 {
-    let mut ok = true;
-    for i in 0..PASS_RINGS {
-        let l = ls[i];
-        ok = and(ok, l == PASS_LENGTHS[i]);
-    }
-    ok
+    ls.iter().zip(PASS_LENGTHS.iter()).all(|(l, k)| *l == *k)
 }
 
 // The rings of a unit (R1.10, R1.12). Where its frame is out of range there is no such unit, and its lines have no
@@ -72,19 +58,11 @@ pub fn rings_of(s: State) -> Rings
 pub fn room_ok(frame: usize, rings: Rings, store: usize, work: usize, output: usize) -> bool
     ensures { result ≡ room_ok wall frame rings store work output }
 {
-    let ls = rings.lines.lengths;
-    let cs = rings.lines.cursors;
-    let ps = rings.passes.lengths;
-    let qs = rings.passes.cursors;
-    let rows = and(work_ok(frame, work), output == frame);
-    and(
-        frame_ok(frame),
-        and(
-            and(rings_hold(frame, ls), passes_are(ps)),
-            and(
-                and(cursors_in(ls, cs), passes_in(ps, qs)),
-                and(is_store(ls, store), rows),
-            ),
-        ),
-    )
+    let lines = rings.lines;
+    let passes = rings.passes;
+    let held = rings_hold(frame, lines.lengths) & passes_are(passes.lengths);
+    let within = cursors_in(&lines.lengths, &lines.cursors)
+        & cursors_in(&passes.lengths, &passes.cursors);
+    let lent = is_store(lines.lengths, store) & (work_ok(frame, work) & (output == frame));
+    frame_ok(frame) & (held & (within & lent))
 }

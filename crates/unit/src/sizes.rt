@@ -1,7 +1,7 @@
 // The sizes of the memory that the unit is lent, judged without a sum that may not fit.
 ghost use Rattle.std.specs.Prelude.{◌≡◌, ◌+◌, ◌*◌, ◌<◌, eqb};
 ghost use Rattle.unit.specs.UnitState.{of_state};
-ghost use Rattle.unit.specs.Layout.{wall, lengths, store_len, work_len};
+ghost use Rattle.unit.specs.Layout.{wall, lengths, total, store_len, work_len};
 
 use crate::State;
 use crate::layout::{ALLPASS_FLOATS, DELAYS_AND_RINGS, LINES, ROWS};
@@ -10,8 +10,7 @@ use crate::layout::{ALLPASS_FLOATS, DELAYS_AND_RINGS, LINES, ROWS};
 pub fn store_ok(s: State, store: usize) -> bool
     ensures { result ≡ eqb store (store_len wall (lengths wall (of_state s))) }
 {
-    let frame = s.frame;
-    is_sum(store, DELAYS_AND_RINGS, LINES, frame)
+    is_sum(store, DELAYS_AND_RINGS, LINES, s.frame)
 }
 
 // Whether a work memory has the length that frames of `frame` samples ask (R1.21).
@@ -21,20 +20,25 @@ pub fn work_ok(frame: usize, work: usize) -> bool
     is_sum(work, ALLPASS_FLOATS, ROWS, frame)
 }
 
-// Whether a store holds lines' rings of the lengths `ls`, and then the allpass rings: each ring is taken
-// off what is left of it (R1.20).
+// Whether a store holds lines' rings of the lengths `ls`, and then the allpass rings (R1.20).
 pub fn is_store(ls: [usize; LINES], store: usize) -> bool
     ensures { result ≡ eqb store (store_len wall ls) }
 {
-    let mut left = store;
-    for i in 0..LINES {
-        let l = ls[i];
-        if left < l {
+    ALLPASS_FLOATS <= store && is_total(&ls, store - ALLPASS_FLOATS)
+}
+
+// Whether rings of the lengths `ls` take `len` floats: each is taken off what is left of them.
+pub fn is_total(ls: &[usize], len: usize) -> bool
+    ensures { result ≡ eqb len (total ls.now) }
+{
+    let mut left = len;
+    for l in ls.iter() {
+        if left < *l {
             return false;
         }
-        left -= l;
+        left -= *l;
     }
-    left == ALLPASS_FLOATS
+    left == 0
 }
 
 // Whether `len` is `base` and `rows` rows of `frame`.

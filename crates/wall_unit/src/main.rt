@@ -14,207 +14,144 @@ use std::io::Read;
 use std::process::ExitCode;
 use unit::State;
 
-// What the program reads and writes by, and whether all reads and writes so far were done.
+// A read or a write failed, and standard error says so.
+#[derive(Clone, Copy)]
+struct Failed;
+
+// The wall unit with its memory.
+#[derive(Drop)]
+struct WallUnit {
+    state: State,
+    store: [f32; STORE],
+    work: [f32; WORK],
+}
+
+impl WallUnit {
+    // A unit in which nothing has sounded yet (R9.1).
+    fn start() -> WallUnit {
+        let mut store = [0.0f32; STORE];
+        let state = shell::start(&mut store).state;
+        let work = [0.0f32; WORK];
+        WallUnit { state, store, work }
+    }
+
+    // The bytes of the frame that it makes of a frame of input.
+    fn input_frame(&mut self, bytes: &[u8]) -> [u8; BYTES] {
+        let mut out = [0u8; BYTES];
+        let (store, work) = (&mut self.store, &mut self.work);
+        self.state = shell::input_frame(self.state, bytes, store, work, &mut out).state;
+        out
+    }
+
+    // The bytes of a frame of its tail.
+    fn tail_frame(&mut self) -> [u8; BYTES] {
+        let mut out = [0u8; BYTES];
+        let (store, work) = (&mut self.store, &mut self.work);
+        self.state = shell::tail_frame(self.state, store, work, &mut out).state;
+        out
+    }
+}
+
+// What the program reads and writes by, and how its input ended, where it has.
 #[derive(Drop)]
 struct Ends<'a, T: Print + Eprint, R: Read + Drop> {
     rt: &'a T,
     alloc: Global,
     input: R,
-    well: bool,
+    ended: Result<(), Failed>,
 }
 
-// Where a turn leaves the unit, whether what it made was written, and whether it was the last.
-#[derive(Clone, Copy)]
-struct Went {
-    state: State,
-    written: bool,
-    last: bool,
+impl<T: Print + Eprint, R: Read + Drop> Ends<'_, T, R> {
+    // Says on standard error why a read or a write failed (R9.15); with the number where there is no
+    // memory for the words alone.
+    fn say(&self, end: &str, e: io::Error) -> Failed {
+        let _ = match format!(in self.alloc; "{e}") {
+            Ok(text) => {
+                let said = words(&text);
+                eprintln!(self.rt; "wall_unit: {end}: {said}")
+            }
+            Err(_) => eprintln!(self.rt; "wall_unit: {end}: {e}"),
+        };
+        Failed
+    }
+
+    // Reads until a frame is full or the input ends, over as many reads as that takes, and gives how many
+    // bytes came. A read that fails is said, and ends the input (R9.15).
+    fn get(&mut self, bytes: &mut [u8]) -> usize
+        ensures { result ≤ length bytes.old }
+    {
+        let mut n = 0usize;
+        while n < bytes.len() {
+            match self.input.read(&mut bytes[n..]) {
+                Ok(0) => break,
+                Ok(more) => n += more,
+                Err(e) => {
+                    self.ended = Err(self.say("standard input", e));
+                    break;
+                }
+            }
+        }
+        n
+    }
+
+    // Writes a frame. A write that fails is said (R9.15).
+    fn put(&self, out: &[u8; BYTES]) -> Result<(), Failed> {
+        self.rt
+            .write_all(out)
+            .map_err(|e| self.say("standard output", e))
+    }
+
+    // All frames of input (R9.5), or fewer where one can't be written. The last may be short, and fewer
+    // bytes than a sample's are none (R9.7). Nothing says that the input ends, so the turns are counted
+    // to a number that no run uses up.
+    fn frames(&mut self, unit: &mut WallUnit) -> Result<(), Failed> {
+        for _ in 0..u64::MAX {
+            let mut bytes = [0u8; BYTES];
+            let n = self.get(&mut bytes);
+            if n < 4 {
+                break;
+            }
+            self.put(&unit.input_frame(&bytes[..n]))?;
+            if n < BYTES {
+                break;
+            }
+        }
+        Ok(())
+    }
+
+    // The frames of the tail (R9.13), or fewer where one can't be written.
+    fn tails(&self, unit: &mut WallUnit) -> Result<(), Failed> {
+        for _ in 0..shell::tail_calls(unit.state.count) {
+            self.put(&unit.tail_frame())?;
+        }
+        Ok(())
+    }
+
+    // The whole program: the tail is played where a read failed too.
+    fn play(&mut self) -> Result<(), Failed> {
+        let mut unit = WallUnit::start();
+        self.frames(&mut unit)?;
+        self.tails(&mut unit)?;
+        self.ended
+    }
 }
 
 // What the system says of a failed read or write, without the number that stands behind it.
 fn words(text: &str) -> &str {
-    match text.split_once(" (os error ") {
-        Some((said, _)) => said,
-        None => text,
-    }
-}
-
-// Says on standard error why a read or a write failed (R9.15); with the number where there is no memory for the words alone.
-fn say<T: Eprint>(rt: &T, alloc: Global, end: &str, e: io::Error) {
-    match format!(in alloc; "{e}") {
-        Ok(text) => {
-            let said = words(&text);
-            let _ = eprintln!(rt; "wall_unit: {end}: {said}");
-        }
-        Err(_) => {
-            let _ = eprintln!(rt; "wall_unit: {end}: {e}");
-        }
-    }
-}
-
-// One read: how many bytes came, none at the input's end. A read that fails is said, and ends the
-// input (R9.15).
-fn get_some<T: Print + Eprint, R: Read + Drop>(ends: &mut Ends<'_, T, R>, bytes: &mut [u8]) -> usize
-    ensures { result ≤ length bytes.old }
-{
-    match ends.input.read(bytes) {
-        Ok(n) => n,
-        Err(e) => {
-            ends.well = false;
-            say(ends.rt, ends.alloc, "standard input", e);
-            0
-        }
-    }
-}
-
-// Reads until a frame is full or the input ends, over as many reads as that takes.
-fn get<T: Print + Eprint, R: Read + Drop>(ends: &mut Ends<'_, T, R>, bytes: &mut [u8]) -> usize
-    ensures { result ≤ length bytes.old }
-{
-    let mut n = 0usize;
-    while n < bytes.len() {
-        let more = get_some(ends, &mut bytes[n..]);
-        if more == 0 {
-            break;
-        }
-        n += more;
-    }
-    n
-}
-
-// Writes a frame. A write that fails is said (R9.15).
-fn put<T: Print + Eprint, R: Read + Drop>(ends: &mut Ends<'_, T, R>, out: &[u8; BYTES]) -> bool {
-    match ends.rt.write_all(out) {
-        Ok(()) => true,
-        Err(e) => {
-            ends.well = false;
-            say(ends.rt, ends.alloc, "standard output", e);
-            false
-        }
-    }
-}
-
-// A frame of input (R9.5). The last may be short, and fewer bytes than a sample's are none (R9.7).
-fn turn<T: Print + Eprint, R: Read + Drop>(
-    ends: &mut Ends<'_, T, R>,
-    s: State,
-    store: &mut [f32; STORE],
-    work: &mut [f32; WORK],
-) -> Went {
-    let mut bytes = [0u8; BYTES];
-    let n = get(ends, &mut bytes);
-    if n < 4 {
-        return Went {
-            state: s,
-            written: true,
-            last: true,
-        };
-    }
-    let mut out = [0u8; BYTES];
-    let a = shell::input_frame(s, &bytes[0..n], store, work, &mut out);
-    let state = a.state;
-    let written = put(ends, &out);
-    Went {
-        state,
-        written,
-        last: !written || n < BYTES,
-    }
-}
-
-// All frames of input. Nothing says that the input ends, so the turns are counted down from a number
-// that no run uses up.
-fn frames<T: Print + Eprint, R: Read + Drop>(
-    ends: &mut Ends<'_, T, R>,
-    s: State,
-    store: &mut [f32; STORE],
-    work: &mut [f32; WORK],
-) -> Went {
-    let mut state = s;
-    let mut written = true;
-    let mut turns = u64::MAX;
-    while turns > 0 {
-        let w = turn(ends, state, store, work);
-        state = w.state;
-        written = w.written;
-        if w.last {
-            break;
-        }
-        turns -= 1;
-    }
-    Went {
-        state,
-        written,
-        last: true,
-    }
-}
-
-// A frame of the tail.
-fn tail_turn<T: Print + Eprint, R: Read + Drop>(
-    ends: &mut Ends<'_, T, R>,
-    s: State,
-    store: &mut [f32; STORE],
-    work: &mut [f32; WORK],
-) -> Went {
-    let mut out = [0u8; BYTES];
-    let a = shell::tail_frame(s, store, work, &mut out);
-    let state = a.state;
-    let written = put(ends, &out);
-    Went {
-        state,
-        written,
-        last: !written,
-    }
-}
-
-// So many frames of the tail (R9.13), or fewer where one can't be written.
-fn tails<T: Print + Eprint, R: Read + Drop>(
-    ends: &mut Ends<'_, T, R>,
-    s: State,
-    calls: u32,
-    store: &mut [f32; STORE],
-    work: &mut [f32; WORK],
-) {
-    let mut state = s;
-    let mut left = calls;
-    while left > 0 {
-        let w = tail_turn(ends, state, store, work);
-        state = w.state;
-        if w.last {
-            break;
-        }
-        left -= 1;
-    }
-}
-
-// The whole program, on the memory lent.
-fn play<T: Print + Eprint, R: Read + Drop>(
-    ends: &mut Ends<'_, T, R>,
-    store: &mut [f32; STORE],
-    work: &mut [f32; WORK],
-) {
-    let fresh = shell::start(store);
-    let w = frames(ends, fresh.state, store, work);
-    let state = w.state;
-    let count = state.count;
-    if w.written {
-        tails(ends, state, shell::tail_calls(count), store, work);
-    }
+    text.split_once(" (os error ")
+        .map_or(text, |(said, _)| said)
 }
 
 // Ends with status 1 where a read or a write failed.
 fn main(rt: HostRuntime) -> ExitCode {
-    let mut store = [0.0f32; STORE];
-    let mut work = [0.0f32; WORK];
     let mut ends = Ends {
         rt: &rt,
         alloc: rt.alloc(),
         input: rt.reader(),
-        well: true,
+        ended: Ok(()),
     };
-    play(&mut ends, &mut store, &mut work);
-    if ends.well {
-        ExitCode::SUCCESS
-    } else {
-        ExitCode::FAILURE
+    match ends.play() {
+        Ok(()) => ExitCode::SUCCESS,
+        Err(Failed) => ExitCode::FAILURE,
     }
 }

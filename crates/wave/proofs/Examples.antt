@@ -1,4 +1,5 @@
 -- The table of examples: small files compute, and what long ones give follows from their lengths and from a smaller one. Assumes nothing.
+use Rattle.std.specs.Prelude.{None, Ok, Err}
 use mathlib.Core.Path.{◌≡◌, refl, ap, ◌∙◌}
 use mathlib.Core.List.{List, []}
 use Prim.Native.Nat.{ℕ, ◌+◌, ◌≤◌, ◌<◌}
@@ -6,9 +7,8 @@ use native.Mathlib.Omega.{arith}
 use lib.ListN.{length, drop, replicate, length-append, length-replicate}
 use borrow.Author.Tests.{lt-leb}
 use Rattle.samples.specs.Answers.{need}
-use Rattle.wave.specs.declared.FormatMet.TheVariants.{NotYet}
 use Rattle.wave.specs.declared.Take.{Take}
-use Rattle.wave.specs.declared.Reading.TheVariants.{Taken, TooLong, NotWave}
+use Rattle.wave.specs.declared.ReadRefusal.TheVariants.{TooLong, NotWave}
 use Rattle.wave.specs.Chunks.{complete, format_of, supported}
 use Rattle.wave.specs.Reading.{walk, is_wave, most_bytes, reading}
 use Rattle.wave.specs.Examples.{mono_take, with_zeros, smallest_file, TakeExamples}
@@ -16,19 +16,19 @@ use Rattle.wave.proofs.Walking.{supported_has, come_far}
 use Rattle.wave.proofs.Readings.{data_room, format_before}
 use Rattle.wave.proofs.Fronts.{reads_alike}
 
-too_long_lem : (file : List ℕ) → most_bytes < length file → reading file ≡ TooLong
+too_long_lem : (file : List ℕ) → most_bytes < length file → reading file ≡ (Err TooLong)
 unfolding reading
 too_long_lem file h =
-    let rest = need (is_wave file) NotWave (walk 0 NotYet 12 (drop 12 file)) in
-    λ i. need (lt-leb (length file) most_bytes h i) TooLong rest
+    let rest = need (is_wave file) (Err NotWave) (walk 0 None 12 (drop 12 file)) in
+    λ i. need (lt-leb (length file) most_bytes h i) (Err TooLong) rest
 
 -- 12 bytes, a whole format, and a header
-none_smaller : (file : List ℕ) (t : Take) → reading file ≡ Taken t → 44 ≤ length file
+none_smaller : (file : List ℕ) (t : Take) → reading file ≡ Ok t → 44 ≤ length file
 none_smaller file t e =
     let f = format_before file t e in
-    omega (arith, come_far file f.chunks f.at NotYet f.come, (supported_has _ f.right).room, f.before, data_room file t e)
+    omega (arith, come_far file f.chunks f.at None f.come, (supported_has _ f.right).room, f.before, data_room file t e)
 
-smallest_read : reading smallest_file ≡ Taken (mono_take 44 0)
+smallest_read : reading smallest_file ≡ Ok (mono_take 44 0)
 unfolding complete format_of supported walk reading
 smallest_read = refl
 
@@ -38,10 +38,10 @@ zeros-length : (n : ℕ) (bytes : List ℕ) → length (with_zeros n bytes) ≡ 
 unfolding with_zeros
 zeros-length n bytes = length-append bytes (replicate n 0) ∙ ap (λ (k : ℕ). length bytes + k) (length-replicate n 0)
 
-zeros_too_long : (n : ℕ) (bytes : List ℕ) → most_bytes < length bytes + n → reading (with_zeros n bytes) ≡ TooLong
+zeros_too_long : (n : ℕ) (bytes : List ℕ) → most_bytes < length bytes + n → reading (with_zeros n bytes) ≡ (Err TooLong)
 zeros_too_long n bytes h = too_long_lem (with_zeros n bytes) (omega (arith, zeros-length n bytes))
 
-zeros_alike : (n : ℕ) → 44 + n ≤ most_bytes → reading (with_zeros n smallest_file) ≡ Taken (mono_take 44 0)
+zeros_alike : (n : ℕ) → 44 + n ≤ most_bytes → reading (with_zeros n smallest_file) ≡ Ok (mono_take 44 0)
 unfolding with_zeros
 zeros_alike n h = (reads_alike smallest_file (with_zeros n smallest_file) (mono_take 44 0) smallest_read (omega (arith, zeros-length n smallest_file)) refl).0
 

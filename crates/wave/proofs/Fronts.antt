@@ -1,5 +1,7 @@
 -- What stands behind the data changes nothing: a chunk is read from its own bytes, whatever stands behind them, and the walk comes to the same
 -- places. Assumes nothing.
+use Rattle.std.specs.Prelude.{Option, Some, None, Ok}
+use Rattle.wave.specs.declared.WaveFormat.{WaveFormat}
 use mathlib.Core.Path.{◌≡◌, refl, sym, ap, ◌∙◌}
 use mathlib.Core.Bool.{Bool, true, false, cond, ◌&&◌}
 use mathlib.Core.List.{List, [], ◌∷◌, ◌++◌}
@@ -12,10 +14,7 @@ use lib.Seq.{take-append-le, drop-append-le, length-take-le}
 use borrow.Author.Tests.{leb-true, le-leb}
 use Rattle.samples.proofs.Lists.{in_front}
 use Rattle.wire.specs.Wire.{value_of}
-use Rattle.wave.specs.declared.FormatMet.{FormatMet}
-use Rattle.wave.specs.declared.FormatMet.TheVariants.{NotYet, Met}
 use Rattle.wave.specs.declared.Take.{Take}
-use Rattle.wave.specs.declared.Reading.TheVariants.{Taken}
 use Rattle.wave.specs.Chunks.{begins, riff_name, wave_name, format_name, data_name, number_at, size_of, format_of, tag_ok, supported, let_by, met_after}
 use Rattle.wave.specs.Reading.{most_bytes, is_wave, reading}
 use Rattle.wave.specs.Promises.{Over, Come, AtData, ReadsAlike}
@@ -69,19 +68,19 @@ module _ (front rest : List ℕ) where
             let width = number_front 2 22 front rest long in
             λ i. leb 16 (size_front h i) && (leb 1 (f i).channels && leb (f i).channels 16 && tag_ok (f i).tag (width i))
 
-    let_by_front : (met : FormatMet) → let_by met (front ++ rest) ≡ let_by met front
-    let_by_front (Met f) = refl
-    let_by_front NotYet = λ i. cond (begins_front format_name front rest (omega arith) i) (supported_front i) true
+    let_by_front : (met : Option WaveFormat) → let_by met (front ++ rest) ≡ let_by met front
+    let_by_front (Some f) = refl
+    let_by_front None = λ i. cond (begins_front format_name front rest (omega arith) i) (supported_front i) true
 
-    met_front : (met : FormatMet) → let_by met front ≡ true → met_after met (front ++ rest) ≡ met_after met front
-    met_front (Met f) r = refl
-    met_front NotYet r =
-        ap (λ (t : Bool). cond t (Met (format_of (front ++ rest))) NotYet) (begins_front format_name front rest (omega arith))
+    met_front : (met : Option WaveFormat) → let_by met front ≡ true → met_after met (front ++ rest) ≡ met_after met front
+    met_front (Some f) r = refl
+    met_front None r =
+        ap (λ (t : Bool). cond t (Some (format_of (front ++ rest))) None) (begins_front format_name front rest (omega arith))
         ∙ go (begins format_name front) r
       where
-        go : (t : Bool) → cond t (supported front) true ≡ true → cond t (Met (format_of (front ++ rest))) NotYet ≡ cond t (Met (format_of front)) NotYet
+        go : (t : Bool) → cond t (supported front) true ≡ true → cond t (Some (format_of (front ++ rest))) None ≡ cond t (Some (format_of front)) None
         go false r = refl
-        go true r = ap Met (format_front (omega (arith, (supported_has front r).room)))
+        go true r = ap Some (format_front (omega (arith, (supported_has front r).room)))
 
 -- ---- the walk
 
@@ -101,7 +100,7 @@ module _ (front : List ℕ) (at : ℕ) (h : at + 8 ≤ length front) where
 
 module _ (front rest rest' : List ℕ) where
   -- a chunk that was passed over with one rest behind it is with another
-  over_alike : (at next : ℕ) (met after : FormatMet) → next ≤ length front
+  over_alike : (at next : ℕ) (met after : Option WaveFormat) → next ≤ length front
       → Over (front ++ rest) at met next after → Over (front ++ rest') at met next after
   over_alike at next met after far o =
       let chunk = drop at front in
@@ -123,7 +122,7 @@ module _ (front rest rest' : List ℕ) where
         format = o.format ∙ met_there rest ∙ sym (met_there rest');
       }
 
-  come_alike : (k at : ℕ) (met : FormatMet) → at ≤ length front → Come (front ++ rest) k at met → Come (front ++ rest') k at met
+  come_alike : (k at : ℕ) (met : Option WaveFormat) → at ≤ length front → Come (front ++ rest) k at met → Come (front ++ rest') k at met
   come_alike zero at met far c = c
   come_alike (suc k) at met far (before, m, (c, o)) =
       (before, m, (come_alike k before m (omega (arith, o.on)) c, over_alike before at m met far o))
@@ -141,11 +140,11 @@ wave_front front rest h =
 
 -- a front that reaches the data's end decides
 taken_alike : (front rest rest' : List ℕ) (t : Take) → t.first + t.len ≤ length front → length (front ++ rest') ≤ most_bytes
-    → reading (front ++ rest) ≡ Taken t → reading (front ++ rest') ≡ Taken t
+    → reading (front ++ rest) ≡ Ok t → reading (front ++ rest') ≡ Ok t
 taken_alike front rest rest' t far fits e =
     let d = stretch_in_file (front ++ rest) t e in
     let at = t.first - 8 in
-    let met = Met t.format in
+    let met = Some t.format in
     let h : at + 8 ≤ length front = omega (arith, d.behind) in
     let size = size_there front at h in
     let wave = wave_front front rest' (omega (arith, d.behind)) ∙ sym (wave_front front rest (omega (arith, d.behind)))
@@ -157,7 +156,7 @@ taken_alike front rest rest' t far fits e =
     } in
     let first : t.first ≡ at + 8 = omega (arith, d.behind) in
     let len = sym (size rest' ∙ sym (size rest) ∙ d.long) in
-    walk_decides (front ++ rest') fits wave d.chunks at met (Taken t) come (header, (refl, (first, (len, d.blocks))))
+    walk_decides (front ++ rest') fits wave d.chunks at met (Ok t) come (header, (refl, (first, (len, d.blocks))))
 
 pub reads_alike : ReadsAlike
 reads_alike file other t e fits same =
@@ -166,7 +165,7 @@ reads_alike file other t e fits same =
     let long : length front ≡ n = length-take-le n file (data_room file t e) in
     let this : front ++ drop n file ≡ file = take-append-drop n file in
     let that : front ++ drop n other ≡ other = ap (λ (l : List ℕ). l ++ drop n other) (sym same) ∙ take-append-drop n other in
-    let read : reading other ≡ Taken t
+    let read : reading other ≡ Ok t
     = ap reading (sym that) ∙ taken_alike front (drop n file) (drop n other) t (omega arith) (rw that fits) (ap reading this ∙ e) in
     let part : (l : List ℕ) → take t.len (drop t.first (take n l)) ≡ take t.len (drop t.first l)
     = λ l. in_front t.first l t.len n (omega arith) in (

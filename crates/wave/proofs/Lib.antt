@@ -1,8 +1,7 @@
-pub mod Blocks
-pub mod Bytes
 pub mod Examples
 pub mod Fronts
 pub mod Readings
 pub mod Shorts
 pub mod Turning
 pub mod Walking
+pub mod Names

@@ -1,9 +1,7 @@
 -- R11.1 to R11.7: a RIFF/WAVE file as a list of bytes, its chunks and its format.
-use Rattle.std.specs.Prelude.{Bool, true, false, cond, ◌&&◌, List, [], ◌∷◌, ℕ, ◌+◌, ◌*◌, ◌%◌, leb, eqb, length, take, drop}
+use Rattle.std.specs.Prelude.{Bool, true, false, cond, ◌&&◌, List, [], ◌∷◌, ℕ, ◌+◌, ◌*◌, ◌%◌, leb, eqb, length, take, drop, Option, Some, None}
 use Rattle.wire.specs.Wire.{value_of}
 use Rattle.wave.specs.declared.WaveFormat.{WaveFormat}
-use Rattle.wave.specs.declared.FormatMet.{FormatMet}
-use Rattle.wave.specs.declared.FormatMet.TheVariants.{NotYet, Met}
 
 -- ---- names
 
@@ -59,16 +57,16 @@ supported chunk =
     leb 16 (size_of chunk) && (leb 1 f.channels && leb f.channels 16 && tag_ok f.tag (number_at 2 22 chunk))
 
 -- R11.5: whether a chunk is the first `fmt `, which alone counts
-abbrev pub is_first : FormatMet → List ℕ → Bool
-is_first NotYet chunk = begins format_name chunk
-is_first (Met f) chunk = false
+abbrev pub is_first : Option WaveFormat → List ℕ → Bool
+is_first None chunk = begins format_name chunk
+is_first (Some f) chunk = false
 
 -- R11.5, R11.6: whether a chunk before the data is let by, and the format met after it
-abbrev pub let_by : FormatMet → List ℕ → Bool
+abbrev pub let_by : Option WaveFormat → List ℕ → Bool
 let_by met chunk = cond (is_first met chunk) (supported chunk) true
 
-abbrev pub met_after : FormatMet → List ℕ → FormatMet
-met_after met chunk = cond (is_first met chunk) (Met (format_of chunk)) met
+abbrev pub met_after : Option WaveFormat → List ℕ → Option WaveFormat
+met_after met chunk = cond (is_first met chunk) (Some (format_of chunk)) met
 
 -- R11.7: the bytes of one sample, and those of a block
 abbrev pub sample_bytes : ℕ → ℕ

@@ -1,8 +1,8 @@
 -- R11.18: files made of few pieces, and what is read of each.
-use Rattle.std.specs.Prelude.{◌≡◌, List, [], ◌∷◌, ◌++◌, ℕ, ◌≤◌, length, take, replicate}
+use Rattle.std.specs.Prelude.{◌≡◌, List, [], ◌∷◌, ◌++◌, ℕ, ◌≤◌, length, take, replicate, Ok, Err}
 use Rattle.wire.specs.Wire.{bytes_of}
 use Rattle.wave.specs.declared.Take.{Take}
-use Rattle.wave.specs.declared.Reading.TheVariants.{Taken, TooLong, NotWave, PastEnd, NoFormat, NoData, Unsupported}
+use Rattle.wave.specs.declared.ReadRefusal.TheVariants.{TooLong, NotWave, PastEnd, NoFormat, NoData, Unsupported}
 use Rattle.wave.specs.Chunks.{riff_name, wave_name, format_name, data_name}
 use Rattle.wave.specs.Reading.{reading, data_in}
 
@@ -76,41 +76,41 @@ float_take = record { format = record { rate = 48000; channels = 2; tag = 3 }; f
 
 pub record TakeExamples : Type 0 where
   -- accepted, data at 44, 0 bytes: the smallest file that is
-  pub smallest : (length smallest_file ≡ 44) × (reading smallest_file ≡ Taken (mono_take 44 0))
-  pub no_smaller : (file : List ℕ) (t : Take) → reading file ≡ Taken t → 44 ≤ length file
+  pub smallest : (length smallest_file ≡ 44) × (reading smallest_file ≡ Ok (mono_take 44 0))
+  pub no_smaller : (file : List ℕ) (t : Take) → reading file ≡ Ok t → 44 ≤ length file
   -- 1: a byte too many, with and without `RIFF`; with as many as there may be it is accepted
-  pub too_long : (length (with_zeros 1048533 smallest_file) ≡ 1048577) × (reading (with_zeros 1048533 smallest_file) ≡ TooLong)
-  pub too_long_bare : (length (with_zeros 1048577 []) ≡ 1048577) × (reading (with_zeros 1048577 []) ≡ TooLong)
-  pub longest : (length (with_zeros 1048532 smallest_file) ≡ 1048576) × (reading (with_zeros 1048532 smallest_file) ≡ Taken (mono_take 44 0))
+  pub too_long : (length (with_zeros 1048533 smallest_file) ≡ 1048577) × (reading (with_zeros 1048533 smallest_file) ≡ Err TooLong)
+  pub too_long_bare : (length (with_zeros 1048577 []) ≡ 1048577) × (reading (with_zeros 1048577 []) ≡ Err TooLong)
+  pub longest : (length (with_zeros 1048532 smallest_file) ≡ 1048576) × (reading (with_zeros 1048532 smallest_file) ≡ Ok (mono_take 44 0))
   -- 2: 11 bytes; `RIFX`; `AVI ` for `WAVE`
-  pub not_wave : (reading (take 11 smallest_file) ≡ NotWave)
-      × (reading (file_of rifx_name wave_name (mono_format ++ empty_data)) ≡ NotWave)
-      × (reading (file_of riff_name avi_name (mono_format ++ empty_data)) ≡ NotWave)
+  pub not_wave : (reading (take 11 smallest_file) ≡ Err NotWave)
+      × (reading (file_of rifx_name wave_name (mono_format ++ empty_data)) ≡ Err NotWave)
+      × (reading (file_of riff_name avi_name (mono_format ++ empty_data)) ≡ Err NotWave)
   -- 3: a `LIST` past the end, before the data
-  pub past_end : reading (wave_of (mono_format ++ (chunk_of list_name 9 empty_data))) ≡ PastEnd 36
+  pub past_end : reading (wave_of (mono_format ++ (chunk_of list_name 9 empty_data))) ≡ Err (PastEnd 36)
   -- 4: `data` and no `fmt `; a `fmt ` behind the data
-  pub no_format : (reading (wave_of empty_data) ≡ NoFormat 12) × (reading (wave_of (empty_data ++ mono_format)) ≡ NoFormat 12)
+  pub no_format : (reading (wave_of empty_data) ≡ Err (NoFormat 12)) × (reading (wave_of (empty_data ++ mono_format)) ≡ Err (NoFormat 12))
   -- 3 before 4: a `data` past the end, and no `fmt `
-  pub past_end_bare : reading (wave_of cut_data) ≡ PastEnd 12
+  pub past_end_bare : reading (wave_of cut_data) ≡ Err (PastEnd 12)
   -- 5: `fmt` and nothing else; a chunk of 1 byte behind it with no pad byte
-  pub data_missing : (reading (wave_of mono_format) ≡ NoData) × (reading (wave_of (mono_format ++ chunk_of list_name 1 (0 ∷ []))) ≡ NoData)
+  pub data_missing : (reading (wave_of mono_format) ≡ Err NoData) × (reading (wave_of (mono_format ++ chunk_of list_name 1 (0 ∷ []))) ≡ Err NoData)
   -- 6: a `fmt ` of 14 bytes; of tag 2, 65,534 or 3 with a width of 16; of tag 1 with a width of 24; of 0 channels; of 17
-  pub bad_format : (reading (wave_of (chunk_of format_name 14 (take 14 (format_body 1 1 16)) ++ empty_data)) ≡ Unsupported 12)
-      × (reading (wave_of (tag_two ++ empty_data)) ≡ Unsupported 12)
-      × (reading (wave_of (format_chunk 65534 1 16 ++ empty_data)) ≡ Unsupported 12)
-      × (reading (wave_of (format_chunk 3 1 16 ++ empty_data)) ≡ Unsupported 12)
-      × (reading (wave_of (format_chunk 1 1 24 ++ empty_data)) ≡ Unsupported 12)
-      × (reading (wave_of (format_chunk 1 0 16 ++ empty_data)) ≡ Unsupported 12)
-      × (reading (wave_of (format_chunk 1 17 16 ++ empty_data)) ≡ Unsupported 12)
+  pub bad_format : (reading (wave_of (chunk_of format_name 14 (take 14 (format_body 1 1 16)) ++ empty_data)) ≡ Err (Unsupported 12))
+      × (reading (wave_of (tag_two ++ empty_data)) ≡ Err (Unsupported 12))
+      × (reading (wave_of (format_chunk 65534 1 16 ++ empty_data)) ≡ Err (Unsupported 12))
+      × (reading (wave_of (format_chunk 3 1 16 ++ empty_data)) ≡ Err (Unsupported 12))
+      × (reading (wave_of (format_chunk 1 1 24 ++ empty_data)) ≡ Err (Unsupported 12))
+      × (reading (wave_of (format_chunk 1 0 16 ++ empty_data)) ≡ Err (Unsupported 12))
+      × (reading (wave_of (format_chunk 1 17 16 ++ empty_data)) ≡ Err (Unsupported 12))
   -- 6: `fmt` of two channels, data of 6 bytes
-  pub bad_blocks : reading (wave_of (format_chunk 1 2 16 ++ chunk_of data_name 6 (replicate 6 0))) ≡ Unsupported 36
+  pub bad_blocks : reading (wave_of (format_chunk 1 2 16 ++ chunk_of data_name 6 (replicate 6 0))) ≡ Err (Unsupported 36)
   -- 3 before 6: a `fmt ` of tag 2 past the end; data of 3 bytes past the end behind `fmt`
-  pub past_end_bad : (reading (wave_of (chunk_of format_name 17 (format_body 2 1 16))) ≡ PastEnd 12) × (reading (wave_of (mono_format ++ cut_data)) ≡ PastEnd 36)
+  pub past_end_bad : (reading (wave_of (chunk_of format_name 17 (format_body 2 1 16))) ≡ Err (PastEnd 12)) × (reading (wave_of (mono_format ++ cut_data)) ≡ Err (PastEnd 36))
   -- the first chunk that is refused: a `fmt ` of tag 2, then a `data` past the end
-  pub first_refused : reading (wave_of (tag_two ++ cut_data)) ≡ Unsupported 12
+  pub first_refused : reading (wave_of (tag_two ++ cut_data)) ≡ Err (Unsupported 12)
   -- accepted: `fmt`, a `fmt ` of tag 2, `data`
-  pub later_format : reading (wave_of (mono_format ++ (tag_two ++ empty_data))) ≡ Taken (mono_take 68 0)
+  pub later_format : reading (wave_of (mono_format ++ (tag_two ++ empty_data))) ≡ Ok (mono_take 68 0)
   -- accepted, data at 56: a `LIST` of 3 bytes and its pad byte, `fmt`, `data`
-  pub pad_byte : reading (wave_of (chunk_of list_name 3 (replicate 4 0) ++ (mono_format ++ empty_data))) ≡ Taken (mono_take 56 0)
+  pub pad_byte : reading (wave_of (chunk_of list_name 3 (replicate 4 0) ++ (mono_format ++ empty_data))) ≡ Ok (mono_take 56 0)
   -- accepted, data at 44, 8 bytes: two channels of floats, and the data as it stands there
-  pub floats : (reading float_file ≡ Taken float_take) × (data_in float_file ≡ float_bytes)
+  pub floats : (reading float_file ≡ Ok float_take) × (data_in float_file ≡ float_bytes)

@@ -1,47 +1,40 @@
--- Bytes and the numbers and floats that they stand for: lengths, one more float, and what decoding gives of what encoding gave. Assumes nothing.
+-- NaN, bytes, and the numbers and floats that they stand for: lengths, one more float, and what decoding gives of what encoding gave. Assumes
+-- nothing.
 use mathlib.Core.Path.{◌≡◌, refl, ap, ◌∙◌}
 use mathlib.Core.List.{List, [], ◌∷◌, ◌++◌, append-nil, append_assoc}
-use Prim.Native.Nat.{ℕ, zero, suc, ◌+◌, ◌*◌, ◌/◌, ◌≤◌, ◌<◌, min}
-use native.Mathlib.Nat.{add_assoc}
+use Prim.Native.Nat.{ℕ, zero, suc, ◌+◌, ◌-◌, ◌*◌, ◌/◌, ◌%◌, ◌<◌, min}
 use native.Mathlib.Numerals.{add-one}
 use native.Mathlib.Omega.{arith}
 use lib.Dec.{T}
-use lib.ListN.{length, get_or, take, drop, set, replicate, drop_of_length-le}
-use lib.Seq.{drop-drop, take-suc, take_at, drop_at, take-length, length-take-le, sets-eq}
-use lib.Ieee.{Float, nan, binary32, fits, of_bits, to_bits}
+use lib.ListN.{length, get_or, take, drop, replicate, drop_of_length-le}
+use lib.Seq.{drop-drop, take-suc, take_at, drop_at, take-length, length-take-le}
+use lib.Ieee.{Float, nan, inf, fin, is_nan, binary32, fits, of_bits, to_bits}
+use mathlib.Core.Bool.{true}
 use lib.Ieee.Bits.{of_bits-to_bits, to_bits-lt}
 use Rattle.samples.specs.Binary32.{+0}
-use Rattle.samples.specs.Lists.{over}
-use Rattle.samples.proofs.Turns.{next}
+use Rattle.samples.proofs.Turns.{back}
+use borrow.Rule.Slice.PartMut.{put_mid}
+use Rattle.std.specs.Int.{w32, to_le_bytes}
 use Rattle.wire.proofs.Unpacking.{first_whole}
 use Rattle.wire.specs.Wire.{value_of, bytes_of, decoded, encoded, DecodedEncoded, written}
 
--- ---- four bytes
+-- ---- NaN
 
-four_read : (bytes : List ℕ) (at : ℕ) → at + 4 ≤ length bytes
-    → take 4 (drop at bytes) ≡ get_or bytes at 0 ∷ get_or bytes (at + 1) 0 ∷ get_or bytes (at + 2) 0 ∷ get_or bytes (at + 3) 0 ∷ []
-four_read bytes at h =
-    let one = next bytes at 0 (omega arith) in
-    let two = next bytes (at + 1) 0 (omega arith) in
-    let three = next bytes (at + 2) 0 (omega arith) in
-    let four = next bytes (at + 3) 0 (omega arith) in
-    rw (one, two, add_assoc, three, add_assoc, four)
-
-pub four_stored : (out : List ℕ) (at a b c d : ℕ) → at + 4 ≤ length out
-    → set (set (set (set out at a) (at + 1) b) (at + 2) c) (at + 3) d ≡ over at (a ∷ b ∷ c ∷ d ∷ []) out
-unfolding over
-four_stored out at a b c d h =
-    let one : at + 1 ≡ suc at = omega arith in
-    let two : at + 2 ≡ suc (suc at) = omega arith in
-    let three : at + 3 ≡ suc (suc (suc at)) = omega arith in
-    rw (one, two, three) (sets-eq (a ∷ b ∷ c ∷ d ∷ []) out at h ∙ append_assoc (take at out) (a ∷ b ∷ c ∷ d ∷ []) (drop (at + 4) out))
-
--- the number of four bytes
-pub four_at_lem : (bytes : List ℕ) (at : ℕ) → at + 4 ≤ length bytes
-    → value_of (take 4 (drop at bytes)) ≡ value_of (get_or bytes at 0 ∷ get_or bytes (at + 1) 0 ∷ get_or bytes (at + 2) 0 ∷ get_or bytes (at + 3) 0 ∷ [])
-four_at_lem bytes at h = ap value_of (four_read bytes at h)
+-- a float of which the test for NaN says yes
+pub only_nan : (x : Float) → is_nan x ≡ true → x ≡ nan
+unfolding is_nan
+only_nan nan h = refl
+only_nan (inf s) h = cc
+only_nan (fin s m e) h = cc
 
 -- ---- encoding
+
+-- the four bytes that std writes
+pub to_le_bytes-bytes_of : (n : ℕ) → to_le_bytes w32 n ≡ bytes_of 4 n
+to_le_bytes-bytes_of n =
+    let third : n / 65536 % 256 ≡ n / 256 / 256 % 256 = omega arith in
+    let fourth : n / 16777216 % 256 ≡ n / 256 / 256 / 256 % 256 = omega arith in
+    λ j. n % 256 ∷ n / 256 % 256 ∷ third j ∷ fourth j ∷ []
 
 pub encoded-length : (xs : List Float) → length (encoded xs) ≡ 4 * length xs
 encoded-length [] = refl
@@ -51,18 +44,19 @@ pub encoded-append : (xs ys : List Float) → encoded (xs ++ ys) ≡ encoded xs 
 encoded-append [] ys = refl
 encoded-append (x ∷ xs) ys = ap (λ (bytes : List ℕ). bytes_of 4 (to_bits binary32 x) ++ bytes) (encoded-append xs ys)
 
--- the next float's four bytes behind those of the floats before it
+-- the next float's four bytes are written behind those of the floats before it
 pub encoded_more : (xs : List Float) (out : List ℕ) (i : ℕ) → i < length xs
-    → over (4 * i) (bytes_of 4 (to_bits binary32 (get_or xs i nan))) (encoded (take i xs) ++ drop (4 * i) out) ≡ encoded (take (i + 1) xs) ++ drop (4 * (i + 1)) out
-unfolding over
+    → put_mid (4 * i) (4 * i + 4 - 4 * i) (encoded (take i xs) ++ drop (4 * i) out) (bytes_of 4 (to_bits binary32 (get_or xs i nan)))
+    ≡ encoded (take (i + 1) xs) ++ drop (4 * (i + 1)) out
 encoded_more xs out i h =
     let front = encoded (take i xs) in
     let four = bytes_of 4 (to_bits binary32 (get_or xs i nan)) in
     let rest = drop (4 * i) out in
     let long : length front ≡ 4 * i = encoded-length (take i xs) ∙ ap (λ (n : ℕ). 4 * n) (length-take-le i xs (omega arith)) in
     let next : 4 * i + 4 ≡ 4 * (i + 1) = omega arith in
-    let put : over (4 * i) four (front ++ rest) ≡ front ++ (four ++ drop (4 * (i + 1)) out)
-    = rw (take_at front rest (4 * i) long, ← drop-drop 4 (4 * i) (front ++ rest), drop_at front rest (4 * i) long, drop-drop, next) in
+    let put : put_mid (4 * i) (4 * i + 4 - 4 * i) (front ++ rest) four ≡ front ++ (four ++ drop (4 * (i + 1)) out)
+    = back (4 * i) 4 (front ++ rest) four
+    ∙ rw (take_at front rest (4 * i) long, ← drop-drop 4 (4 * i) (front ++ rest), drop_at front rest (4 * i) long, drop-drop, next) refl in
     let more : encoded (take (i + 1) xs) ≡ front ++ four = rw (add-one, take-suc xs i nan h) (encoded-append (take i xs) (get_or xs i nan ∷ [])) in
     put ∙ rw (more, append_assoc)
 

@@ -1,5 +1,5 @@
 -- R9.4: how floats lie in bytes, the lowest byte first: of any number of bytes each, and of four.
-use Rattle.std.specs.Prelude.{◌≡◌, cond, List, [], ◌∷◌, ◌++◌, ℕ, zero, suc, ◌+◌, ◌*◌, ◌/◌, ◌%◌, min, T, leb, length, get_or, take, drop, Float}
+use Rattle.std.specs.Prelude.{◌≡◌, cond, List, [], ◌∷◌, ◌++◌, ℕ, zero, suc, ◌+◌, ◌-◌, ◌*◌, ◌/◌, ◌%◌, min, T, leb, length, get_or, take, drop, map, replicate, Float}
 use Rattle.std.specs.Float.{nan, binary32}
 use Rattle.std.specs.Float.Ieee.{fits, of_bits, to_bits}
 use Rattle.samples.specs.Binary32.{+0}
@@ -22,6 +22,10 @@ first_of k f bytes = cond (leb k (length bytes)) (f (value_of (take k bytes))) +
 abbrev pub unpacked : ℕ → (ℕ → Float) → ℕ → List ℕ → List Float
 unpacked k f zero bytes = []
 unpacked k f (suc n) bytes = first_of k f bytes ∷ unpacked k f n (drop k bytes)
+
+-- R9.16: n floats, what f makes of each group of bytes, and +0 past the last
+abbrev pub filled : {G : Type 0} → (G → Float) → ℕ → List G → List Float
+filled f n groups = map f (take n groups) ++ replicate (n - length groups) +0
 
 -- R9.16: n floats, four bytes each
 abbrev pub decoded : ℕ → List ℕ → List Float

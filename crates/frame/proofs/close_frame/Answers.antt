@@ -10,7 +10,7 @@ use mathlib.Core.Bool.{not}
 use Rattle.frame.proofs.close_frame.Goals as goal
 
 pub returns-then-not-room_ok : goal.returns-then-not-room_ok
-returns-then-not-room_ok c = rw (shut _ _ c.room_ok.ensures (ap not c.if-not-room_ok.true)) (record { value = refl; store_after = refl; work_after = refl; output_after = refl })
+returns-then-not-room_ok c = rw (shut _ _ c.room_ok.ensures (ap not c.if-not-room_ok.true)) (record { value = c.not_stepped.ensures; store_after = refl; work_after = refl; output_after = refl })
 
 -- the lengths of all rings are handed in
 lines_long : (s : goal.Start) → length s.args.rings.lines.lengths ≡ 16

@@ -1,7 +1,13 @@
 -- `iir::is_blank` meets its contract. Assumes nothing.
-use Rattle.iir.specs.Nine.{nine}
+use Rattle.std.proofs.Common.{rules, ◌&&◌, true}
+use Rattle.std.proofs.lemmas.Iterator.{YieldsList-from_slice}
+use Rattle.std.proofs.lemmas.Iterator.Consumers.{fold_from_yields_List}
+use Rattle.samples.specs.Binary32.{plus_zero}
+use Rattle.iir.specs.Nine.{numbers}
+use Rattle.iir.proofs.Laws.{nine_fold}
 use Rattle.iir.proofs.is_blank.Goals as goal
 
 pub returns : goal.returns
-unfolding nine
-returns c = cc
+returns c =
+    nine_fold plus_zero c.args.f _
+    (fold_from_yields_List _ (λ ok x. ok && plus_zero x) true _ c.fold.ensures.ran (YieldsList-from_slice (numbers c.args.f) (cc)) (λ ok x b q k. search rules))

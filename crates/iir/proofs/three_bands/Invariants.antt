@@ -1,18 +1,9 @@
--- `iir::three_bands`. The invariant: as of one run, through all three: a sample passes from one run to the next. Assumes nothing.
-use mathlib.Core.Path.{◌≡◌}
-use mathlib.Core.List.{◌++◌}
-use Prim.Native.Nat.{◌≤◌, ◌<◌, ◌-◌, ◌*◌, ◌^◌}
-use lib.ListN.{length, take, drop}
-use Rattle.iir.specs.Runs.{run_out, run_end}
+-- `iir::three_bands`. The invariant: as of one run, through all three bands. Assumes nothing.
+use Rattle.std.proofs.Common.{◌≡◌, ◌++◌, take, drop}
+use Rattle.iir.specs.Runs.{bands_out, bands_end}
 use Rattle.iir.proofs.three_bands.Given as goal
 
-abbrev pub invariant-loop-i : goal.invariant-loop-i
-invariant-loop-i l =
-    (l.i ≤ length l.initial.xs) × (length l.xs ≡ length l.initial.xs) × (length l.initial.xs * 4 < 2 ^ 63)
-    × (take l.i l.xs ++ run_out l.g2 (run_out l.g1 (run_out l.g0 (drop l.i l.xs))) ≡ run_out l.initial.g2 (run_out l.initial.g1 (run_out l.initial.g0 l.initial.xs)))
-    × (run_end l.g0 (drop l.i l.xs) ≡ run_end l.initial.g0 l.initial.xs)
-    × (run_end l.g1 (run_out l.g0 (drop l.i l.xs)) ≡ run_end l.initial.g1 (run_out l.initial.g0 l.initial.xs))
-    × (run_end l.g2 (run_out l.g1 (run_out l.g0 (drop l.i l.xs))) ≡ run_end l.initial.g2 (run_out l.initial.g1 (run_out l.initial.g0 l.initial.xs)))
-
-abbrev pub decreases-loop-i : goal.decreases-loop-i
-decreases-loop-i l = length l.initial.xs - l.i
+abbrev pub invariant-loop-x : goal.invariant-loop-x
+invariant-loop-x l =
+    (take l.x-index l.xs ++ bands_out l.g (drop l.x-index l.xs) ≡ bands_out l.initial.g l.initial.xs)
+    × (bands_end l.g (drop l.x-index l.xs) ≡ bands_end l.initial.g l.initial.xs)

@@ -1,14 +1,15 @@
 -- `jobs::job_line` meets its contract. Assumes nothing.
+use Rattle.std.proofs.Common.{rules, ◌≡◌, sym}
 use native.Mathlib.Omega.{arith}
 use borrow.Author.Tests.{ltb-true}
-use mathlib.Core.Path.{◌≡◌, ap, ◌∙◌}
+use mathlib.Core.Path.{ap, ◌∙◌}
 use mathlib.Core.Bool.{Bool, true, not, ◌&&◌}
 use Prim.Native.Nat.{ℕ, ◌<◌}
 use lib.Dec.{ltb}
 use mathlib.Core.List.{List, []}
 use lib.ListN.{length}
-use Rattle.samples.specs.declared.Answer.TheVariants.{Accepted}
-use Rattle.samples.proofs.Laws.{is_accepted, join_and}
+use Rattle.samples.specs.Answers.{Accepted, accepted}
+use Rattle.samples.proofs.Laws.{join_and}
 use Rattle.audio_buffer.specs.declared.AudioEffectState.TheVariants.{TailComplete}
 use Rattle.iir.specs.declared.Filter.{Filter}
 use Rattle.unit.specs.UnitState.{UnitState, of_state}
@@ -19,25 +20,15 @@ use Rattle.judges.specs.Turns.{judged_line}
 use Rattle.rows.specs.Fits.{work_for}
 use Rattle.unit.specs.Outcome.{outcome}
 use Rattle.judges.proofs.Fits.{due_of}
-use Rattle.unit.proofs.Outcomes.{refused, let_by}
 use Rattle.machine.specs.Ending.{Memory, lend}
 use Rattle.machine.specs.Jobs.{line_job, unit_marked, memory_done}
-use Rattle.machine.proofs.Ends.{quiet_refused, quiet_let_by}
+use Rattle.machine.proofs.Ends.{quiet_let_by}
 use Rattle.jobs.proofs.Laid.{work_for_lem, line_of, line_work, line_ends_lem}
-use Rattle.jobs.proofs.job_line.Goals.{Else-not-is_accepted}
+use Rattle.jobs.proofs.job_line.Goals.{In_default}
 use Rattle.jobs.proofs.job_line.Goals as goal
 
-pub returns-then-not-is_accepted : goal.returns-then-not-is_accepted
-returns-then-not-is_accepted c =
-    let a = c.args in
-    let u = of_state a.s in
-    let w = lend a.s [] a.work.now in
-    let due = judged_line wall u a.line (length a.work.now) in
-    let e = c.judge_line-answer.ensures in
-    let q = quiet_refused due _ (memory_done wall w (line_job a.line)) w _ e (refused _ due _ e c.is_accepted.ensures (ap not c.if-not-is_accepted.true)) c.quiet.ensures in record { value = q.0; work_after = ap (λ (v : Memory). v.work) q.1 }
-
 -- what the judgement has let by
-module _ (p : goal.Else-not-is_accepted) where
+module _ (p : goal.In_default) where
   abbrev u : UnitState
   u = of_state p.args.s
 
@@ -48,7 +39,7 @@ module _ (p : goal.Else-not-is_accepted) where
   work = length p.args.work.now
 
   due : judged_line wall u line work ≡ Accepted
-  due = is_accepted _ (let_by _ (judged_line wall u line work) _ p.judge_line-answer.ensures p.is_accepted.ensures (ap not p.if-not-is_accepted.false))
+  due = search rules
 
   abbrev turn : Bool
   turn = u.held.busy && (marked u (mix_mark wall) && not (marked u (line_mark wall line)))
@@ -63,20 +54,21 @@ module _ (p : goal.Else-not-is_accepted) where
   room = join_and known (work_for_lem u work (due_of u (work_ok wall u work) (ltb line 16) turn due))
 
 pub overflow_add-line : goal.overflow_add-line
-overflow_add-line c = omega (arith, few (goal.at.overflow_add-line c).Else-not-is_accepted)
+overflow_add-line c = omega (arith, few (goal.at.overflow_add-line c).In_default)
 
 pub marked-requires : goal.marked-requires
-marked-requires c = omega (arith, few (goal.at.marked-requires c).Else-not-is_accepted)
+marked-requires c = omega (arith, few (goal.at.marked-requires c).In_default)
 
 pub returns : goal.returns
 returns c =
     let a = c.args in
-    let v = u (goal.at.returns c).Else-not-is_accepted in
+    let v = u (goal.at.returns c).In_default in
     let w = lend a.s [] a.work.now in
-    let due' = judged_line wall v a.line (work (goal.at.returns c).Else-not-is_accepted) in
-    let e = c.judge_line-answer.ensures in
+    let due' = judged_line wall v a.line (work (goal.at.returns c).In_default) in
+    let through : due' ≡ Accepted = search rules in
+    let e = sym through in
     let g = c.make_line-gs.ensures in
-    let filters = line_ends_lem v a.work.now _ (room (goal.at.returns c).Else-not-is_accepted) a.line _ g.value in
+    let filters = line_ends_lem v a.work.now _ (room (goal.at.returns c).In_default) a.line _ g.value in
     let unit = ap of_state c.marked.ensures ∙ ap (λ (gs : List Filter). unit_marked v (line_mark wall a.line) gs) filters in
-    let q = quiet_let_by due' _ (memory_done wall w (line_job a.line)) w _ e (let_by _ due' _ e c.is_accepted.ensures (ap not c.if-not-is_accepted.false))
-    (c.quiet-2.ensures ∙ ap (λ (x : UnitState). outcome c.judge_line-answer.result x TailComplete) unit) in record { value = q.0; work_after = line_work v a.work.now _ (room (goal.at.returns c).Else-not-is_accepted) a.line _ g.work_after ∙ ap (λ (x : Memory). x.work) q.1 }
+    let q = quiet_let_by due' _ (memory_done wall w (line_job a.line)) w _ e (ap accepted through)
+    (c.quiet-2.ensures ∙ ap (λ (x : UnitState). outcome Accepted x TailComplete) unit) in record { value = q.0; work_after = line_work v a.work.now _ (room (goal.at.returns c).In_default) a.line _ g.work_after ∙ ap (λ (x : Memory). x.work) q.1 }

@@ -1,9 +1,10 @@
 -- `jobs::job_output` meets its contract. Assumes nothing.
+use Rattle.std.proofs.Common.{rules, ◌≡◌, sym}
 use mathlib.Core.Path.{ap, ◌∙◌}
 use mathlib.Core.Bool.{true, not, ◌&&◌}
 use mathlib.Core.List.{List, []}
 use lib.ListN.{length}
-use Rattle.samples.proofs.Laws.{is_accepted}
+use Rattle.samples.specs.Answers.{Accepted, accepted}
 use Rattle.audio_buffer.specs.declared.AudioEffectState.TheVariants.{TailComplete}
 use Rattle.iir.specs.declared.Filter.{Filter}
 use Rattle.unit.specs.UnitState.{UnitState, of_state}
@@ -13,21 +14,11 @@ use Rattle.judges.specs.Marks.{marked, all_read}
 use Rattle.judges.specs.Turns.{judged_output}
 use Rattle.unit.specs.Outcome.{outcome}
 use Rattle.judges.proofs.Fits.{due_of}
-use Rattle.unit.proofs.Outcomes.{refused, let_by}
 use Rattle.machine.specs.Ending.{Memory, lend}
 use Rattle.machine.specs.Jobs.{output_job, unit_marked, memory_done}
-use Rattle.machine.proofs.Ends.{quiet_refused, quiet_let_by}
+use Rattle.machine.proofs.Ends.{quiet_let_by}
 use Rattle.jobs.proofs.Laid.{work_for_lem, output_work, output_ends_lem}
 use Rattle.jobs.proofs.job_output.Goals as goal
-
-pub returns-then-not-is_accepted : goal.returns-then-not-is_accepted
-returns-then-not-is_accepted c =
-    let a = c.args in
-    let u = of_state a.s in
-    let w = lend a.s [] a.work.now in
-    let due = judged_output wall u (length a.work.now) in
-    let e = c.judge_output-answer.ensures in
-    let q = quiet_refused due _ (memory_done wall w output_job) w _ e (refused _ due _ e c.is_accepted.ensures (ap not c.if-not-is_accepted.true)) c.quiet.ensures in record { value = q.0; work_after = ap (λ (v : Memory). v.work) q.1 }
 
 pub returns : goal.returns
 returns c =
@@ -36,11 +27,11 @@ returns c =
     let work = length a.work.now in
     let w = lend a.s [] a.work.now in
     let due = judged_output wall u work in
-    let e = c.judge_output-answer.ensures in
-    let through = let_by _ due _ e c.is_accepted.ensures (ap not c.if-not-is_accepted.false) in
-    let room = work_for_lem u work (due_of u (work_ok wall u work) true (u.held.busy && (all_read wall u && not (marked u (output_mark wall)))) (is_accepted due through)) in
+    let through : due ≡ Accepted = search rules in
+    let e = sym through in
+    let room = work_for_lem u work (due_of u (work_ok wall u work) true (u.held.busy && (all_read wall u && not (marked u (output_mark wall)))) through) in
     let g = c.make_output-gs.ensures in
     let filters = output_ends_lem u a.work.now _ room _ g.value in
     let unit = ap of_state c.marked.ensures ∙ ap (λ (gs : List Filter). unit_marked u (output_mark wall) gs) filters in
-    let q = quiet_let_by due _ (memory_done wall w output_job) w _ e through
-    (c.quiet-2.ensures ∙ ap (λ (v : UnitState). outcome c.judge_output-answer.result v TailComplete) unit) in record { value = q.0; work_after = output_work u a.work.now _ room _ g.work_after ∙ ap (λ (v : Memory). v.work) q.1 }
+    let q = quiet_let_by due _ (memory_done wall w output_job) w _ e (ap accepted through)
+    (c.quiet-2.ensures ∙ ap (λ (v : UnitState). outcome Accepted v TailComplete) unit) in record { value = q.0; work_after = output_work u a.work.now _ room _ g.work_after ∙ ap (λ (v : Memory). v.work) q.1 }

@@ -1,13 +1,14 @@
 -- `jobs::job_read` meets its contract. Assumes nothing.
+use Rattle.std.proofs.Common.{rules, ◌≡◌, sym}
 use native.Mathlib.Omega.{arith}
 use borrow.Author.Tests.{ltb-true, eqb-true}
-use mathlib.Core.Path.{◌≡◌, refl, ap, ◌∙◌}
+use mathlib.Core.Path.{refl, ap, ◌∙◌}
 use mathlib.Core.Bool.{Bool, true, not, ◌&&◌, cond}
 use Prim.Native.Nat.{ℕ, ◌<◌}
 use lib.Dec.{ltb}
 use lib.ListN.{length, replicate}
-use Rattle.samples.specs.declared.Answer.TheVariants.{Accepted}
-use Rattle.samples.proofs.Laws.{is_accepted, join_and, split_and, frame_of}
+use Rattle.samples.specs.Answers.{Accepted, accepted}
+use Rattle.samples.proofs.Laws.{join_and, split_and, frame_of}
 use Rattle.audio_buffer.specs.declared.AudioEffectState.TheVariants.{TailComplete}
 use Rattle.unit.specs.UnitState.{UnitState, of_state}
 use Rattle.unit.specs.declared.State.{State}
@@ -25,25 +26,15 @@ use Rattle.rows.proofs.RowsOf.{work_fits}
 use Rattle.rows.specs.Reads.{line_room, read_laid}
 use Rattle.unit.specs.Outcome.{outcome}
 use Rattle.judges.proofs.Fits.{Due, due_of}
-use Rattle.unit.proofs.Outcomes.{refused, let_by}
 use Rattle.machine.specs.Ending.{Memory, lend}
 use Rattle.machine.specs.Jobs.{read_job, memory_done}
-use Rattle.machine.proofs.Ends.{quiet_refused, quiet_let_by}
+use Rattle.machine.proofs.Ends.{quiet_let_by}
 use Rattle.jobs.proofs.Laid.{work_for_lem, line_of, read_work_lem}
-use Rattle.jobs.proofs.job_read.Goals.{Else-not-is_accepted}
+use Rattle.jobs.proofs.job_read.Goals.{In_default}
 use Rattle.jobs.proofs.job_read.Goals as goal
 
-pub returns-then-not-is_accepted : goal.returns-then-not-is_accepted
-returns-then-not-is_accepted c =
-    let a = c.args in
-    let u = of_state a.s in
-    let w = lend a.s a.store.now a.work.now in
-    let due = judged_read wall u a.line (length a.store.now) (length a.work.now) in
-    let e = c.judge_read-answer.ensures in
-    let q = quiet_refused due _ (memory_done wall w (read_job a.line)) w _ e (refused _ due _ e c.is_accepted.ensures (ap not c.if-not-is_accepted.true)) c.quiet.ensures in record { value = q.0; work_after = ap (λ (v : Memory). v.work) q.1 }
-
 -- what the judgement has let by
-module _ (p : goal.Else-not-is_accepted) where
+module _ (p : goal.In_default) where
   abbrev u : UnitState
   u = of_state p.args.s
 
@@ -57,7 +48,7 @@ module _ (p : goal.Else-not-is_accepted) where
   work = length p.args.work.now
 
   judged_ok : judged_read wall u line store work ≡ Accepted
-  judged_ok = is_accepted _ (let_by _ (judged_read wall u line store work) _ p.judge_read-answer.ensures p.is_accepted.ensures (ap not p.if-not-is_accepted.false))
+  judged_ok = search rules
 
   abbrev turn : Bool
   turn = u.held.busy && not (marked u line)
@@ -90,19 +81,20 @@ module _ (p : goal.Else-not-is_accepted) where
   room = join_and known (join_and frames (join_and hold lent.0))
 
 pub marked-requires : goal.marked-requires
-marked-requires c = omega (arith, few (goal.at.marked-requires c).Else-not-is_accepted)
+marked-requires c = omega (arith, few (goal.at.marked-requires c).In_default)
 
 pub returns : goal.returns
 returns c =
     let a = c.args in
-    let v = u (goal.at.returns c).Else-not-is_accepted in
+    let v = u (goal.at.returns c).In_default in
     let w = lend a.s a.store.now a.work.now in
-    let due' = judged_read wall v a.line (store (goal.at.returns c).Else-not-is_accepted) (work (goal.at.returns c).Else-not-is_accepted) in
-    let e = c.judge_read-answer.ensures in
-    let cursors = (split_and (cursors_in (lengths wall v) v.cursors.lines) (cursors_in wall.pass_lengths v.cursors.passes) (due (goal.at.returns c).Else-not-is_accepted).cursors).0 in
-    let rings = c.rings_of.ensures ∙ its_rings (goal.at.returns c).Else-not-is_accepted in
-    let row = read_work_lem v a.work.now _ (room (goal.at.returns c).Else-not-is_accepted) a.line a.store.now _ (few (goal.at.returns c).Else-not-is_accepted) (hold (goal.at.returns c).Else-not-is_accepted) (eqb-true _ _ (lent (goal.at.returns c).Else-not-is_accepted).0) (work_fits v.settings.frame (work (goal.at.returns c).Else-not-is_accepted) (frames (goal.at.returns c).Else-not-is_accepted)) cursors
+    let due' = judged_read wall v a.line (store (goal.at.returns c).In_default) (work (goal.at.returns c).In_default) in
+    let through : due' ≡ Accepted = search rules in
+    let e = sym through in
+    let cursors = (split_and (cursors_in (lengths wall v) v.cursors.lines) (cursors_in wall.pass_lengths v.cursors.passes) (due (goal.at.returns c).In_default).cursors).0 in
+    let rings = c.rings_of.ensures ∙ its_rings (goal.at.returns c).In_default in
+    let row = read_work_lem v a.work.now _ (room (goal.at.returns c).In_default) a.line a.store.now _ (few (goal.at.returns c).In_default) (hold (goal.at.returns c).In_default) (eqb-true _ _ (lent (goal.at.returns c).In_default).0) (work_fits v.settings.frame (work (goal.at.returns c).In_default) (frames (goal.at.returns c).In_default)) cursors
     (c.read_line.ensures
-    ∙ ap (λ (k : Rings). read_laid wall v.settings.frame k a.line (line_room wall v.settings.frame k.lines.lengths a.line (store (goal.at.returns c).Else-not-is_accepted) (work (goal.at.returns c).Else-not-is_accepted)) a.store.now a.work.now) rings) in
-    let q = quiet_let_by due' _ (memory_done wall w (read_job a.line)) w _ e (let_by _ due' _ e c.is_accepted.ensures (ap not c.if-not-is_accepted.false))
-    (c.quiet-2.ensures ∙ ap (λ (s : State). outcome c.judge_read-answer.result (of_state s) TailComplete) c.marked.ensures) in record { value = q.0; work_after = row ∙ ap (λ (x : Memory). x.work) q.1 }
+    ∙ ap (λ (k : Rings). read_laid wall v.settings.frame k a.line (line_room wall v.settings.frame k.lines.lengths a.line (store (goal.at.returns c).In_default) (work (goal.at.returns c).In_default)) a.store.now a.work.now) rings) in
+    let q = quiet_let_by due' _ (memory_done wall w (read_job a.line)) w _ e (ap accepted through)
+    (c.quiet-2.ensures ∙ ap (λ (s : State). outcome Accepted (of_state s) TailComplete) c.marked.ensures) in record { value = q.0; work_after = row ∙ ap (λ (x : Memory). x.work) q.1 }

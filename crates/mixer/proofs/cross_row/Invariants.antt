@@ -1,9 +1,13 @@
--- `mixer::cross_row`. The invariant: the first t samples of both rows are done, all else is as it was. Assumes nothing.
+-- `mixer::cross_row`. The invariant: the first t samples of both sums are done, the rest are as they were. Assumes nothing.
+use mathlib.Core.Bool.{not}
 use mathlib.Core.Path.{◌≡◌}
-use Prim.Native.Nat.{◌≤◌}
-use lib.ListN.{length}
-use Rattle.mixer.specs.Passes.{crossed}
+use mathlib.Core.List.{◌++◌}
+use lib.ListN.{get_or, drop}
+use lib.Ieee.{nan}
+use Rattle.hadamard.specs.Mix.{each, plus_minus}
 use Rattle.mixer.proofs.cross_row.Given as goal
 
 abbrev pub invariant-loop-t : goal.invariant-loop-t
-invariant-loop-t l = (l.t ≤ l.f) × (length l.w ≡ length l.initial.w) × (l.w ≡ crossed l.m l.d l.e l.a l.b l.t l.initial.w)
+invariant-loop-t l =
+    (l.low ≡ each l.t (λ t. plus_minus l.m (plus_minus l.m (get_or l.initial.low t nan) (get_or l.xs t nan)) (get_or l.ys t nan)) ++ drop l.t l.initial.low)
+    × (l.high ≡ each l.t (λ t. plus_minus (not l.m) (plus_minus l.m (get_or l.initial.high t nan) (get_or l.xs t nan)) (get_or l.ys t nan)) ++ drop l.t l.initial.high)

@@ -1,19 +1,24 @@
 -- `mixer::scale_row` meets its contract. Assumes nothing.
-use borrow.Author.Rules.{rules}
 use native.Mathlib.Omega.{arith}
-use lib.ListN.{length-set}
+use mathlib.Core.List.{map}
+use mathlib.Core.Path.{refl, ap, ◌∙◌}
+use Prim.Native.Nat.{◌≤◌}
+use lib.ListN.{length, drop_of_length-le}
+use lib.Ieee.{nan}
 use Rattle.samples.specs.Binary32.{◌⊗◌}
-use Rattle.mixer.proofs.Passes.{pass-none, pass_own, pass_all}
+use Rattle.samples.proofs.Turns.{front, stored, all_done}
 use Rattle.mixer.proofs.scale_row.Goals as goal
 
-pub loop-t-init : goal.loop-t-init
-loop-t-init c = (search rules, search rules, pass-none _ _ _ _)
+pub loop-x-init : goal.loop-x-init
+loop-x-init c = refl
 
-pub loop-t-preserved : goal.loop-t-preserved
-loop-t-preserved c =
-    let l = c.loop-t in
-    let a = c.args in
-    (omega arith, simp length-set (omega arith), pass_own (λ x y. x ⊗ a.k) a.d l.t a.w.now l.w (omega arith) l.invariant.2)
+pub loop-x-preserved : goal.loop-x-preserved
+loop-x-preserved c =
+    let l = c.loop-x in
+    stored l.row l.x-index nan (omega arith) _ (ap (map (λ x. x ⊗ c.args.k)) (front l.row l.x-index nan (omega arith) _)) ∙ l.invariant
 
 pub returns : goal.returns
-returns c = pass_all _ _ _ _ _ _ _ (omega arith) c.loop-t.invariant.2
+returns c =
+    let l = c.loop-x in
+    let h : length l.row ≤ l.x-index = omega arith in
+    all_done l.row l.x-index h ∙ rw (drop_of_length-le l.row h) at l.invariant

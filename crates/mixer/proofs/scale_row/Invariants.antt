@@ -1,10 +1,9 @@
--- `mixer::scale_row`. The invariant: the first t samples of the row are done, all else is as it was. Assumes nothing.
+-- `mixer::scale_row`. The invariant: what is done, before what is left times k, is the whole times k. Assumes nothing.
 use mathlib.Core.Path.{◌≡◌}
-use Prim.Native.Nat.{◌≤◌}
-use lib.ListN.{length}
+use mathlib.Core.List.{◌++◌, map}
+use lib.ListN.{take, drop}
 use Rattle.samples.specs.Binary32.{◌⊗◌}
-use Rattle.mixer.specs.Passes.{pass}
 use Rattle.mixer.proofs.scale_row.Given as goal
 
-abbrev pub invariant-loop-t : goal.invariant-loop-t
-invariant-loop-t l = (l.t ≤ l.f) × (length l.w ≡ length l.initial.w) × (l.w ≡ pass (λ x y. x ⊗ l.k) l.d l.d l.t l.initial.w)
+abbrev pub invariant-loop-x : goal.invariant-loop-x
+invariant-loop-x l = take l.x-index l.row ++ map (λ x. x ⊗ l.k) (drop l.x-index l.row) ≡ map (λ x. x ⊗ l.k) l.initial.row

@@ -1,23 +1,26 @@
--- `mixer::sum_row` meets its contract, by the law of its two passes. Assumes nothing.
+-- `mixer::sum_row` meets its contract. Assumes nothing.
 use native.Mathlib.Omega.{arith}
-use Prim.Native.Nat.{◌-◌}
-use Rattle.samples.proofs.Rows.{row_ends}
-use Rattle.mixer.proofs.Passes.{row-summed}
+use mathlib.Core.Path.{◌≡◌, sym, ap, ◌∙◌}
+use lib.ListN.{length}
+use Rattle.samples.proofs.Turns.{lent}
+use Rattle.mixer.proofs.Passes.{first_row, summed_more}
 use Rattle.mixer.proofs.sum_row.Goals as goal
 
-pub copy_row-requires : goal.copy_row-requires
-copy_row-requires c =
-    let a = c.args in
-    omega (arith, row_ends 0 a.n a.f (omega arith))
+pub loop-c-init : goal.loop-c-init
+loop-c-init c =
+    let f = length c.args.sum.now in
+    let copied = c.copy_from_slice.ensures.after in
+    copied ∙ first_row c.args.r f c.args.reads.now (sym (ap length copied) ∙ c.copy_from_slice.ensures.len)
 
-pub sum_rows-requires : goal.sum_rows-requires
-sum_rows-requires c =
+pub loop-c-preserved : goal.loop-c-preserved
+loop-c-preserved c =
+    let l = c.loop-c in
     let a = c.args in
-    omega (arith, row_ends (a.n - 1) a.n a.f (omega arith))
+    let f = length a.sum.now in
+    summed_more a.r l.c f a.reads.now l.sum _ (omega arith) l.invariant c.minus.ensures (rw lent at c.plus_minus_row.ensures)
 
 pub returns : goal.returns
 returns c =
-    let a = c.args in
-    row-summed a.n (a.n - 1) a.f a.r a.d a.w.now _ _ (omega arith) (omega arith) (omega arith)
-    c.copy_row.ensures
-    c.sum_rows.ensures
+    let l = c.loop-c in
+    let e : l.c ≡ c.args.n = omega arith in
+    rw e at l.invariant

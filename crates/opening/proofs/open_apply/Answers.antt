@@ -1,14 +1,14 @@
 -- `opening::open_apply` meets its contract. Assumes nothing.
+use Rattle.std.proofs.Common.{rules, ◌≡◌, sym}
 use mathlib.Core.Path.{ap, ◌∙◌}
 use mathlib.Core.Bool.{false, ◌&&◌}
 use lib.IntN.{pos}
 use lib.ListN.{length}
-use Rattle.samples.proofs.Laws.{is_accepted}
+use Rattle.samples.specs.Answers.{Accepted, accepted}
 use Rattle.audio_buffer.specs.declared.AudioEffectState.TheVariants.{TailComplete}
 use Rattle.unit.specs.UnitState.{UnitState, of_state}
 use Rattle.unit.specs.Outcome.{outcome}
 use Rattle.unit.specs.Layout.{wall, lengths, allpass_in}
-use Rattle.unit.proofs.Outcomes.{refused, let_by}
 use Rattle.judges.specs.Judges.{store_ok, work_ok}
 use Rattle.judges.specs.Turns.{judged_open_apply}
 use Rattle.judges.proofs.Fits.{given_of}
@@ -17,19 +17,9 @@ use Rattle.reverb.proofs.WholeParts.{filters_given}
 use Rattle.machine.specs.Ending.{Memory, lend}
 use Rattle.machine.specs.Whole as Play
 use Rattle.machine.specs.Jobs.{unit_open, memory_opened}
-use Rattle.machine.proofs.Ends.{quiet_refused, quiet_let_by}
+use Rattle.machine.proofs.Ends.{quiet_let_by}
 use Rattle.opening.proofs.Opened.{open_fits, open_long, laid-after}
-use mathlib.Core.Bool.{not}
 use Rattle.opening.proofs.open_apply.Goals as goal
-
-pub returns-then-not-is_accepted : goal.returns-then-not-is_accepted
-returns-then-not-is_accepted c =
-    let a = c.args in
-    let w = lend a.s a.store.now a.work.now in
-    let p = Play.apply a.t a.coefficients.now a.input.now in
-    let due = judged_open_apply wall (of_state a.s) a.t a.coefficients.now a.input.now (length a.store.now) (length a.work.now) in
-    let e = c.judge_open_apply-answer.ensures in
-    let q = quiet_refused due _ (memory_opened wall w p) w _ e (refused _ due _ e c.is_accepted.ensures (ap not c.if-not-is_accepted.true)) c.quiet.ensures in record { value = q.0; work_after = ap (λ (v : Memory). v.work) q.1 }
 
 pub begin_work-requires : goal.begin_work-requires
 begin_work-requires c =
@@ -37,8 +27,8 @@ begin_work-requires c =
     let u = of_state a.s in
     let store = length a.store.now in
     let work = length a.work.now in
-    let through = let_by _ (judged_open_apply wall u a.t a.coefficients.now a.input.now store work) _ c.judge_open_apply-answer.ensures c.is_accepted.ensures (ap not c.if-not-is_accepted.false) in
-    let g = given_of u a.t a.coefficients.now a.input.now (store_ok wall u store && work_ok wall u work) (is_accepted _ through) in
+    let through : (judged_open_apply wall u a.t a.coefficients.now a.input.now store work) ≡ Accepted = search rules in
+    let g = given_of u a.t a.coefficients.now a.input.now (store_ok wall u store && work_ok wall u work) through in
     let o = open_fits u store work g.due in
     (o.fits, o.rings)
 
@@ -57,13 +47,13 @@ returns c =
     let w = lend a.s a.store.now a.work.now in
     let p = Play.apply a.t a.coefficients.now a.input.now in
     let due = judged_open_apply wall u a.t a.coefficients.now a.input.now store work in
-    let e = c.judge_open_apply-answer.ensures in
-    let through = let_by _ due _ e c.is_accepted.ensures (ap not c.if-not-is_accepted.false) in
-    let g = given_of u a.t a.coefficients.now a.input.now (store_ok wall u store && work_ok wall u work) (is_accepted due through) in
+    let through : due ≡ Accepted = search rules in
+    let e = sym through in
+    let g = given_of u a.t a.coefficients.now a.input.now (store_ok wall u store && work_ok wall u work) through in
     let filters = filters_given a.coefficients.now _ g.given c.filters_of-fs.ensures in
-    let count = ap (λ (n : Counted). n.count.0) c.tail_count-tail.ensures ∙ ap pos g.count in
+    let count = ap (λ (n : Counted). n.count.0) c.tail_count.ensures ∙ ap pos g.count in
     let unit = ap of_state c.opened.ensures ∙ (λ i. unit_open wall u false (filters i) (count i)) in
-    let q = quiet_let_by due _ (memory_opened wall w p) w _ e through (c.quiet-2.ensures ∙ ap (λ (v : UnitState). outcome c.judge_open_apply-answer.result v TailComplete) unit) in record {
+    let q = quiet_let_by due _ (memory_opened wall w p) w _ e (ap accepted through) (c.quiet-2.ensures ∙ ap (λ (v : UnitState). outcome Accepted v TailComplete) unit) in record {
       value = q.0;
       work_after = laid-after u.settings.frame (allpass_in (lengths wall u) a.store.now) a.input.now _ _ g.row c.begin_work.ensures c.copy.ensures
           ∙ ap (λ (v : Memory). v.work) q.1;

@@ -1,6 +1,6 @@
 -- `rows::make_line` meets its contract. Assumes nothing.
 use borrow.Author.Tests.{ltb-true}
-use mathlib.Core.Path.{◌≡◌, refl, ap, ◌∙◌}
+use mathlib.Core.Path.{◌≡◌, refl, ap}
 use mathlib.Core.Bool.{Bool, false, ◌&&◌}
 use mathlib.Core.List.{List}
 use Prim.Native.Nat.{ℕ}
@@ -20,19 +20,19 @@ nothing : (f i : ℕ) (tail : Bool) (fs : List Filter) (work : List Float) → (
 unfolding line_ends line_laid
 nothing f i tail fs work = (refl, refl)
 
-pub returns-then-not-and : goal.returns-then-not-and
-returns-then-not-and c =
+pub returns-then-not-i-work_for : goal.returns-then-not-i-work_for
+returns-then-not-i-work_for c =
     let a = c.args in
-    let q = c.and.ensures ∙ ap (λ (b : Bool). ltb a.i 16 && b) c.work_for.ensures in rw (shut _ _ q (ap not c.if-not-and.true)) (with_work (nothing a.f a.i a.tail a.fs a.work.now))
+    let q = ap (λ (b : Bool). ltb a.i 16 && b) c.work_for.ensures in rw (shut _ _ q (ap not c.if-not-i-work_for.true)) (with_work (nothing a.f a.i a.tail a.fs a.work.now))
 
 pub wall_line-requires : goal.wall_line-requires
 wall_line-requires c =
     let a = c.args in
-    let q = c.and.ensures ∙ ap (λ (b : Bool). ltb a.i 16 && b) c.work_for.ensures in
-    let p = split_and _ _ (let_in _ _ q (ap not c.if-not-and.false)) in
+    let q = ap (λ (b : Bool). ltb a.i 16 && b) c.work_for.ensures in
+    let p = split_and _ _ (let_in _ _ q (ap not c.if-not-i-work_for.false)) in
     (ltb-true _ _ p.0, work_fits _ _ p.1)
 
 pub returns : goal.returns
 returns c =
     let a = c.args in
-    let q = c.and.ensures ∙ ap (λ (b : Bool). ltb a.i 16 && b) c.work_for.ensures in rw (let_in _ _ q (ap not c.if-not-and.false)) (record { value = c.wall_line.ensures.value; work_after = c.wall_line.ensures.work_after })
+    let q = ap (λ (b : Bool). ltb a.i 16 && b) c.work_for.ensures in rw (let_in _ _ q (ap not c.if-not-i-work_for.false)) (record { value = c.wall_line.ensures.value; work_after = c.wall_line.ensures.work_after })

@@ -57,4 +57,4 @@ returns-then-x c = when_zero c.args.x c.well_formed.0.1 c.if-x.true
 
 pub returns-else-x : goal.returns-else-x
 unfolding of_bits
-returns-else-x c = when_not c.args.x c.if-x.false
+returns-else-x c = c.if-x.false ∙ when_not c.args.x c.if-x.false

@@ -1,60 +1,32 @@
 -- `search::first_bad` meets its contract. Assumes nothing.
-use native.Mathlib.Omega.{arith}
-use mathlib.Core.Path.{◌≡◌, sym, ap, ◌∙◌}
-use mathlib.Core.Bool.{true, false}
-use mathlib.Core.List.{List}
-use Prim.Native.Nat.{ℕ, ◌+◌, ◌≤◌, ◌<◌, ◌-◌}
-use native.Mathlib.Numerals.{add-one}
-use lib.ListN.{length, get_or, take, drop, drop_of_length-le}
-use lib.Seq.{drop-cons, drop-drop}
-use lib.Ieee.{Float, nan}
+use Rattle.std.proofs.Common.{◌≡◌, ◌+◌, length, not, sym, ap, ◌∙◌, rules, arith, length-append}
+use borrow.Author.Tests.{tests}
+use Rattle.std.specs.List.{position}
+use Rattle.std.specs.Option.{option_map}
+use Rattle.std.proofs.lemmas.Iterator.{YieldsList-from_slice}
+use Rattle.std.proofs.lemmas.Iterator.Search.{position_from_yields_List}
 use Rattle.samples.specs.Binary32.{finite}
-use Rattle.search.specs.Search.{first_from, first_bad, all_finite}
-use Rattle.search.specs.declared.Found.TheVariants.{At, Nothing}
-use Rattle.search.proofs.Finite.{finite_skip}
+use Rattle.search.specs.Search.{first_from}
+use Rattle.search.proofs.Finite.{finite_skip, bad_within, first_at}
 use Rattle.search.proofs.first_bad.Goals as goal
 
-module _ (xs : List Float) (i : ℕ) (h : i < length xs) (so_far : first_from i (drop i xs) ≡ first_bad xs) where
-  bad_here : finite (get_or xs i nan) ≡ false → At i ≡ first_bad xs
-  bad_here b = sym (rw (drop-cons xs i nan h, b)) ∙ so_far
+pub returns-then-not-row_finite : goal.returns-then-not-row_finite
+returns-then-not-row_finite c =
+    let k = c.loop-part.start in
+    let part = c.in-Some.part.now in
+    let first : c.position.result ≡ position (λ x. not (finite x)) part =
+    position_from_yields_List (λ x. not (finite x)) _ _ _ c.position.ensures.ran (YieldsList-from_slice part cc) (λ x b q h. search (rules, tests)) in
+    let moved : c.map.result ≡ option_map (λ i. k + i) c.position.result = search rules in
+    let cut = c.in-Some.ensures.steps.1 in
+    moved ∙ ap (option_map (λ i. k + i)) first ∙ sym (first_at k part) ∙ sym (bad_within k part _ (sym c.row_finite.ensures ∙ c.if-not-row_finite.true))
+    ∙ sym (ap (first_from k) cut.0) ∙ c.loop-part.invariant.finds
 
-  good_here : finite (get_or xs i nan) ≡ true → first_from (i + 1) (drop (i + 1) xs) ≡ first_bad xs
-  good_here b = rw add-one (sym (rw (drop-cons xs i nan h, b)) ∙ so_far)
-
-passed : (xs : List Float) (i j : ℕ) → i ≤ j → first_from i (drop i xs) ≡ first_bad xs → all_finite (take (j - i) (drop i xs)) ≡ true
-    → first_from j (drop j xs) ≡ first_bad xs
-passed xs i j h so_far b =
-    let m : i + (j - i) ≡ j = omega arith in
-    let s : first_from (i + (j - i)) (drop (j - i) (drop i xs)) ≡ first_from j (drop j xs) =
-    ap (first_from (i + (j - i))) (drop-drop (j - i) i xs) ∙ ap (λ (k : ℕ). first_from k (drop k xs)) m in
-    sym (finite_skip (j - i) i (drop i xs) b ∙ s) ∙ so_far
-
-nothing_left : (xs : List Float) (i : ℕ) → length xs ≤ i → first_from i (drop i xs) ≡ first_bad xs → Nothing ≡ first_bad xs
-nothing_left xs i h so_far = sym (rw (drop_of_length-le xs h)) ∙ so_far
-
-pub rows-preserved-then-row_finite : goal.rows-preserved-then-row_finite
-rows-preserved-then-row_finite c =
-    let e = c.rows.invariant in
-    (omega arith, e.1, passed _ c.rows.i _ (omega arith) e.2 (sym c.row_finite.ensures ∙ c.if-row_finite.true))
-
-pub loop-i-preserved : goal.loop-i-preserved
-loop-i-preserved c =
-    let l = c.loop-i in
-    let e = l.invariant in (
-      omega arith,
-      omega arith,
-      e.2,
-      e.3,
-      e.4,
-      good_here _ l.i (omega arith) e.5 (sym c.is_finite.ensures ∙ c.if-not-is_finite.false),
-    )
-
-pub returns-after-rows : goal.returns-after-rows
-returns-after-rows c =
-    let e = c.rows.invariant in
-    e.1 ∙ nothing_left _ c.rows.i (omega arith) e.2
-
-pub returns-then-not-is_finite : goal.returns-then-not-is_finite
-returns-then-not-is_finite c =
-    let l = c.loop-i in
-    bad_here _ l.i (omega arith) l.invariant.5 (sym c.is_finite.ensures ∙ c.if-not-is_finite.true)
+pub loop-part-preserved : goal.loop-part-preserved
+loop-part-preserved c =
+    let k = c.loop-part.start in
+    let part = c.in-Some.part.now in
+    let cut = c.in-Some.ensures.steps.1 in
+    record {
+      begins = omega (arith, simp length-append at (ap length cut.0));
+      finds = sym (finite_skip k part _ (sym c.row_finite.ensures ∙ c.if-not-row_finite.false)) ∙ sym (ap (first_from k) cut.0) ∙ c.loop-part.invariant.finds;
+    }

@@ -1,21 +1,11 @@
--- `search::first_bad`. The invariant of both loops: nothing is found yet, and the search from i on finds what the search from the start finds; a
--- row that is finite is passed over. Assumes nothing.
-use mathlib.Core.Path.{◌≡◌}
-use Prim.Native.Nat.{◌≤◌, ◌<◌, ◌-◌}
-use lib.ListN.{length, drop}
+-- `search::first_bad`. The invariant: what is left begins at `start`, and the search of it finds what the search of all finds. Assumes nothing.
+use Rattle.std.proofs.Common.{◌≡◌, ◌+◌, length}
+use Rattle.std.specs.Slice.Iter.{chunks_rest}
 use Rattle.search.specs.Search.{first_from, first_bad}
-use Rattle.search.specs.declared.Found.TheVariants.{Nothing}
 use Rattle.search.proofs.first_bad.Given as goal
 
-abbrev pub invariant-loop-i : goal.invariant-loop-i
-invariant-loop-i l =
-    (l.initial.i ≤ l.i) × (l.i ≤ l.end) × (l.end ≤ length l.rows) × (l.initial.i < l.end) × (l.found ≡ Nothing) × (first_from l.i (drop l.i l.rows) ≡ first_bad l.rows)
-
-abbrev pub decreases-loop-i : goal.decreases-loop-i
-decreases-loop-i l = l.end - l.i
-
-abbrev pub invariant-rows : goal.invariant-rows
-invariant-rows l = (l.i ≤ length l.rows) × (l.found ≡ Nothing) × (first_from l.i (drop l.i l.rows) ≡ first_bad l.rows)
-
-abbrev pub decreases-rows : goal.decreases-rows
-decreases-rows l = length l.rows - l.i
+abbrev pub invariant-loop-part : goal.invariant-loop-part
+invariant-loop-part l = let left = chunks_rest l.part-iterator in record {
+  begins : l.start + length left ≡ length l.rows;
+  finds : first_from l.start left ≡ first_bad l.rows;
+}

@@ -1,27 +1,23 @@
 -- `wire::encode` meets its contract. Assumes nothing.
 use native.Mathlib.Omega.{arith}
 use mathlib.Core.Path.{◌≡◌, ◌∙◌}
-use Prim.Native.Nat.{◌*◌}
-use Rattle.samples.specs.Lists.{over}
-use Rattle.wire.specs.Wire.{bytes_of, written}
-use Rattle.wire.proofs.Laws.{encoded_more}
+use lib.ListN.{take}
+use lib.Seq.{take_all, length-take-le}
+use Rattle.wire.specs.Wire.{written}
+use Rattle.wire.proofs.Laws.{to_le_bytes-bytes_of, encoded_more}
 use Rattle.wire.proofs.encode.Goals as goal
 
 pub loop-i-preserved : goal.loop-i-preserved
 loop-i-preserved c =
     let l = c.loop-i in
-    let a = c.args in
-    let put = c.put in (
-      omega arith,
-      put.auto.out ∙ l.invariant.1,
-      put.ensures
-          ∙ (λ j. over (4 * l.i) (bytes_of 4 (c.bits.ensures j)) (l.invariant.2 j))
-          ∙ encoded_more a.xs.now a.out.now l.i (omega arith),
-    )
+    let four = c.copy_from_slice.ensures.after ∙ c.to_le_bytes-word.ensures ∙ to_le_bytes-bytes_of _ in
+    rw (four, c.bits.ensures, l.invariant) (encoded_more (take c.min-count.result c.args.xs.now) c.args.out.now l.i (omega arith))
 
 pub returns : goal.returns
 unfolding written
 returns c =
     let l = c.loop-i in
-    let all : l.i ≡ c.least-count.result = omega arith in
-    rw (all, c.least-count.ensures) at l.invariant.2
+    let count = c.min-count.ensures in
+    let xs = take c.min-count.result c.args.xs.now in
+    let all : l.i ≡ c.min-count.result = omega (arith, length-take-le c.min-count.result c.args.xs.now (omega (arith, count))) in
+    rw (take_all l.i xs (omega arith), all, count) at l.invariant

@@ -1,6 +1,8 @@
 -- `closing::ends::concluded` meets its contract. Assumes nothing.
+use Rattle.std.specs.Prelude.{Err}
 use mathlib.Core.Path.{ap, ◌∙◌}
-use Rattle.samples.specs.declared.Answer.TheVariants.{Accepted, NotFinite}
+use Rattle.samples.specs.declared.Refusal.TheVariants.{NotFinite}
+use Rattle.samples.specs.Answers.{Accepted}
 use Rattle.audio_buffer.specs.declared.AudioEffectState.TheVariants.{TailComplete}
 use Rattle.unit.specs.declared.State.{State}
 use Rattle.unit.specs.UnitState.{of_state}
@@ -11,7 +13,7 @@ use Rattle.closing.proofs.ends.concluded.Goals as goal
 pub returns-then-not-frame : goal.returns-then-not-frame
 returns-then-not-frame c =
     when_not c.args.frame.ok _ _ _ c.if-not-frame.true
-    (c.quiet.ensures ∙ ap (λ (t : State). outcome NotFinite (of_state t) TailComplete) c.shut.ensures)
+    (c.quiet.ensures ∙ ap (λ (t : State). outcome (Err NotFinite) (of_state t) TailComplete) c.shut.ensures)
 
 pub returns : goal.returns
 returns c =

@@ -26,7 +26,6 @@ pub returns : goal.returns
 returns c =
     let a = (s (goal.at.returns c).After-work_places-p).args in
     let work = a.work.now in
-    c.and.ensures
-    ∙ (λ i. c.filters_finite.ensures i && (c.all_finite.ensures ∙ ap all_finite (end_is _ work)) i)
+    (λ i. c.filters_finite.ensures i && (c.all_finite.ensures ∙ ap all_finite (end_is _ work)) i)
     ∙ ap (λ (p : Places). filters_finite a.fs && all_finite (drop p.mixed work)) (at (goal.at.returns c).After-work_places-p)
     ∙ judged_rows_lem a.n a.f work a.fs

@@ -9,6 +9,6 @@ use Rattle.judges.proofs.marks.all_done.Goals as goal
 
 pub returns : goal.returns
 returns c =
-    let marks = c.args.marks in
+    let marks = c.args.marks.now in
     let all : length marks ≤ 34 = search rules in
     c.first_done.ensures ∙ ap all_done (take_all 34 marks all)

@@ -8,4 +8,4 @@ use Rattle.reverb.proofs.filters.filters_from.Given as goal
 
 abbrev pub invariant-loop-i : goal.invariant-loop-i
 invariant-loop-i l =
-    (l.i ≤ 51) × (l.k ≡ 5 * l.i) × (length l.fs ≡ 51) × (take l.i l.fs ++ filters_of (51 - l.i) (drop l.k l.coefficients) ≡ filters_of 51 l.coefficients)
+    (l.i ≤ 51) × (length l.f-items ≡ 51) × (take l.i l.f-items ++ filters_of (51 - l.i) (drop (5 * l.i) l.coefficients) ≡ filters_of 51 l.coefficients)

@@ -2,7 +2,7 @@
 -- are let by and give the tail counted; and there is room for the next. Assumes nothing.
 use mathlib.Core.Path.{◌≡◌}
 use mathlib.Core.Bool.{true}
-use Prim.Native.Nat.{◌*◌, ◌-◌, ◌≤◌}
+use Prim.Native.Nat.{◌*◌, ◌-◌}
 use lib.IntN.{pos}
 use lib.ListN.{length, take, drop}
 use Rattle.bands.specs.declared.Times.{Times}
@@ -18,11 +18,7 @@ use Rattle.reverb.proofs.several.play_frames.Given as goal
 
 abbrev pub invariant-loop-done : goal.invariant-loop-done
 invariant-loop-done l =
-    (l.done ≤ l.n) × (l.at ≡ l.done * l.f) × (length l.store ≡ length l.initial.store) × (length l.work ≡ length l.initial.work) × (length l.output ≡ length l.initial.output)
-    × (room_ok wall l.f (rings_at l.ls l.last) (length l.store) (length l.work) l.f ≡ true)
-    × ((t : Times) → times_ok t ≡ true → pos (tail_count t l.rate l.f) ≡ l.tail.count.0
+    (room_ok wall l.f (rings_at l.ls l.last) (length l.store) (length l.work) l.f ≡ true)
+    × ((t : Times) → times_ok t ≡ true → pos (tail_count t l.s.rate l.f) ≡ l.tail.0
     → left t l.coefficients l.f l.n (lend l.s l.initial.store l.initial.work) l.input l.initial.output
-    ≡ ahead l.done (take l.at l.output) (left t l.coefficients l.f (l.n - l.done) (record { unit = unit_stepped (of_state l.s) l.last l.count.0; store = l.store; work = l.work }) (drop l.at l.input) (drop l.at l.output)))
-
-abbrev pub decreases-loop-done : goal.decreases-loop-done
-decreases-loop-done l = l.n - l.done
+    ≡ ahead l.done (take (l.done * l.f) l.output) (left t l.coefficients l.f (l.n - l.done) (record { unit = unit_stepped (of_state l.s) l.last l.count.0; store = l.store; work = l.work }) (drop (l.done * l.f) l.input) (drop (l.done * l.f) l.output)))

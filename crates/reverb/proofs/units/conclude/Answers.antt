@@ -1,5 +1,5 @@
 -- `reverb::units::conclude` meets its contract. Assumes nothing.
-use Rattle.samples.specs.declared.Answer.TheVariants.{Accepted}
+use Rattle.samples.specs.Answers.{Accepted}
 use Rattle.unit.proofs.Outcomes.{when, when_not}
 use Rattle.reverb.proofs.units.conclude.Goals as goal
 

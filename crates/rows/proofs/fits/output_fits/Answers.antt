@@ -35,6 +35,5 @@ returns-then-len-rows c =
 pub returns : goal.returns
 returns c =
     let a = c.args in
-    c.and.ensures
-    ∙ (λ i. eqb (a.f % 4) 0 && c.sum_to.ensures i)
+    (λ i. eqb (a.f % 4) 0 && c.is_total.ensures i)
     ∙ rw (at (goal.at.returns c).After-work_places-p) (output_long a.n a.f a.ps a.len (rw (at (goal.at.returns c).After-work_places-p) at c.if-len-rows.false) (passed (goal.at.returns c).Else-not-few_rows))

@@ -2,7 +2,7 @@
 use native.Mathlib.Omega.{arith}
 use mathlib.Core.Path.{◌≡◌, refl}
 use lib.ListN.{length}
-use Rattle.samples.specs.declared.Answer.TheVariants.{Accepted}
+use Rattle.samples.specs.Answers.{Accepted}
 use Rattle.samples.specs.Sizes.{rate_ok, frame_ok}
 use Rattle.unit.specs.Layout.{wall, lengths_from, total, store_len}
 use Rattle.unit.specs.Fresh.{fresh_unit}

@@ -14,8 +14,8 @@ use Rattle.unit.proofs.layout.lengths_of.Goals as goal
 pub loop-i-init : goal.loop-i-init
 loop-i-init c = (search rules, search rules, refl)
 
-pub overflow_add-ls : goal.overflow_add-ls
-overflow_add-ls c =
+pub overflow_add-l : goal.overflow_add-l
+overflow_add-l c =
     let l = c.loop-i in
     omega (arith, delay_range l.i, c.delay.ensures, c.requires)
 
@@ -25,7 +25,7 @@ loop-i-preserved c =
     let s = c.args.s in (
       omega arith,
       simp length-set l.invariant.1,
-      lengths-turn wall (of_state s).settings 16 l.i _ l.ls _ c.loop-i-test.true (omega arith) (ap (λ (d : ℕ). d + s.frame) c.delay.ensures) l.invariant.2,
+      lengths-turn wall (of_state s).settings 16 l.i _ l.l-items _ c.loop-i-test.true (omega arith) (ap (λ (d : ℕ). d + s.frame) c.delay.ensures) l.invariant.2,
     )
 
 pub returns : goal.returns
@@ -33,4 +33,4 @@ unfolding lengths_from
 returns c =
     let l = c.loop-i in
     let z : 16 - l.i ≡ 0 = omega arith in
-    all_done l.ls l.i (omega arith) ∙ rw z at l.invariant.2
+    all_done l.l-items l.i (omega arith) ∙ rw z at l.invariant.2

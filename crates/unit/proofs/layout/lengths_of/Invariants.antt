@@ -9,4 +9,4 @@ use Rattle.unit.proofs.layout.lengths_of.Given as goal
 
 abbrev pub invariant-loop-i : goal.invariant-loop-i
 invariant-loop-i l =
-    (l.i ≤ 16) × (length l.ls ≡ 16) × (take l.i l.ls ++ lengths_from wall (of_state l.s).settings (16 - l.i) l.i ≡ lengths_from wall (of_state l.s).settings 16 0)
+    (l.i ≤ 16) × (length l.l-items ≡ 16) × (take l.i l.l-items ++ lengths_from wall (of_state l.s).settings (16 - l.i) l.i ≡ lengths_from wall (of_state l.s).settings 16 0)

@@ -1,18 +1,13 @@
 -- `unit::range::blank_filters` meets its contract. Assumes nothing.
-use borrow.Author.Rules.{rules}
-use native.Mathlib.Omega.{arith}
-use mathlib.Core.Path.{refl}
-use Rattle.samples.proofs.Laws.{all_more, all_end}
+use Rattle.std.proofs.Common.{rules, ◌≡◌, true, ◌↔◌}
+use Rattle.std.specs.List.{All}
+use Rattle.iir.specs.Nine.{blank_filter}
 use Rattle.unit.specs.Range.{blank_filters}
+use Rattle.samples.proofs.Laws.{every}
 use Rattle.unit.proofs.range.blank_filters.Goals as goal
-
-pub loop-i-init : goal.loop-i-init
-loop-i-init c = (search rules, refl)
-
-pub loop-i-preserved : goal.loop-i-preserved
-loop-i-preserved c =
-    (omega arith, all_more _ c.args.fs c.loop-i.i _ _ _ _ (search rules) c.loop-i.invariant.1 c.is_blank.ensures c.and-ok.ensures)
 
 pub returns : goal.returns
 unfolding blank_filters
-returns c = all_end _ c.args.fs c.loop-i.i _ c.loop-i.invariant.1 (search rules)
+returns c =
+    let e : (c.all.result ≡ true) ↔ All (λ f. blank_filter f ≡ true) c.args.fs.now = search rules in
+    every _ c.args.fs.now c.all.result e

@@ -1,7 +1,8 @@
 -- `unit::range::open_or_blank` meets its contract. Assumes nothing.
+use Rattle.std.proofs.Common.{rules}
 use Rattle.unit.specs.Range.{blank_open}
 use Rattle.unit.proofs.range.open_or_blank.Goals as goal
 
-pub returns-else-busy : goal.returns-else-busy
+pub returns-else-s : goal.returns-else-s
 unfolding blank_open
-returns-else-busy c = rw c.if-busy.false c.blank_open.ensures
+returns-else-s c = search rules

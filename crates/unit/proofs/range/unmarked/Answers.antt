@@ -1,18 +1,12 @@
 -- `unit::range::unmarked` meets its contract. Assumes nothing.
-use borrow.Author.Rules.{rules}
-use native.Mathlib.Omega.{arith}
-use mathlib.Core.Path.{refl}
-use Rattle.samples.proofs.Laws.{all_more, all_end}
+use Rattle.std.proofs.Common.{rules, ◌≡◌, not, true, ◌↔◌}
+use Rattle.std.specs.List.{All}
 use Rattle.unit.specs.Range.{unmarked}
+use Rattle.samples.proofs.Laws.{every}
 use Rattle.unit.proofs.range.unmarked.Goals as goal
-
-pub loop-i-init : goal.loop-i-init
-loop-i-init c = (search rules, refl)
-
-pub loop-i-preserved : goal.loop-i-preserved
-loop-i-preserved c =
-    (omega arith, all_more _ c.args.marks c.loop-i.i _ _ _ _ (search rules) c.loop-i.invariant.1 refl c.and-ok.ensures)
 
 pub returns : goal.returns
 unfolding unmarked
-returns c = all_end _ c.args.marks c.loop-i.i _ c.loop-i.invariant.1 (search rules)
+returns c =
+    let e : (c.all.result ≡ true) ↔ All (λ m. not m ≡ true) c.args.marks.now = search rules in
+    every _ c.args.marks.now c.all.result e

@@ -1,18 +1,13 @@
 -- `unit::room::rings_hold` meets its contract. Assumes nothing.
-use borrow.Author.Rules.{rules}
-use native.Mathlib.Omega.{arith}
-use mathlib.Core.Path.{refl}
-use Rattle.samples.proofs.Laws.{all_more, all_end}
+use Rattle.std.proofs.Common.{rules, ◌≡◌, ◌&&◌, true, ◌↔◌}
+use Rattle.std.specs.List.{All}
+use lib.Dec.{leb}
 use Rattle.unit.specs.Room.{rings_hold}
+use Rattle.samples.proofs.Laws.{every}
 use Rattle.unit.proofs.room.rings_hold.Goals as goal
-
-pub loop-i-init : goal.loop-i-init
-loop-i-init c = (search rules, refl)
-
-pub loop-i-preserved : goal.loop-i-preserved
-loop-i-preserved c =
-    (omega arith, all_more _ c.args.ls c.loop-i.i 0 _ _ _ (search rules) c.loop-i.invariant.1 c.and.ensures c.and-ok.ensures)
 
 pub returns : goal.returns
 unfolding rings_hold
-returns c = all_end _ c.args.ls c.loop-i.i _ c.loop-i.invariant.1 (search rules)
+returns c =
+    let e : (c.all.result ≡ true) ↔ All (λ l. (leb c.args.frame l && leb l 65536) ≡ true) c.args.ls = search rules in
+    every _ c.args.ls c.all.result e

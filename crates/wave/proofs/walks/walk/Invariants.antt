@@ -2,13 +2,18 @@
 use mathlib.Core.Path.{◌≡◌}
 use Prim.Native.Nat.{◌+◌, ◌-◌, ◌≤◌}
 use lib.ListN.{length, drop}
-use Rattle.wave.specs.declared.FormatMet.TheVariants.{NotYet}
+use Rattle.std.specs.Prelude.{None}
 use Rattle.wave.specs.Reading.{walk}
 use Rattle.wave.specs.Workers.{MetOk}
 use Rattle.wave.proofs.walks.walk.Given as goal
 
 abbrev pub invariant-loop-at : goal.invariant-loop-at
-invariant-loop-at l = (l.at ≤ length l.file + 1) × (MetOk l.met) × (walk 0 l.met l.at (drop l.at l.file) ≡ walk 0 NotYet 12 (drop 12 l.file))
+invariant-loop-at l =
+    record {
+      in_file : l.at ≤ length l.file + 1;
+      met_ok : MetOk l.met;
+      same : walk 0 l.met l.at (drop l.at l.file) ≡ walk 0 None 12 (drop 12 l.file);
+    }
 
 abbrev pub decreases-loop-at : goal.decreases-loop-at
-decreases-loop-at l = length l.file - l.at
+decreases-loop-at l = length l.file + 1 - l.at
