@@ -1,14 +1,11 @@
 -- The laws of finiteness: what a search that finds nothing says of lists that are joined and cut. Assumes nothing.
 use mathlib.Core.Path.{◌≡◌, refl, sym, ap, ◌∙◌}
-use mathlib.Core.Bool.{Bool, true, false, not, ◌&&◌, cond}
+use mathlib.Core.Bool.{Bool, true, false, ◌&&◌, cond}
 use mathlib.Core.List.{List, [], ◌∷◌, ◌++◌}
 use Prim.Native.Nat.{ℕ, zero, suc, ◌+◌}
 use native.Mathlib.Nat.{add-zero, add-suc, suc-add}
-use Rattle.std.specs.List.{fold, position, position_from}
-use Rattle.std.proofs.lemmas.Iterator.Adapters.{position_from-zero}
-use Rattle.std.specs.Option.{option_map}
+use Rattle.std.specs.List.{fold}
 use Rattle.std.specs.Prelude.{Option, Some}
-use native.Mathlib.Omega.{arith}
 use lib.Ieee.{Float, of_bits}
 use lib.ListN.{take, drop, replicate, take-append-drop, length}
 use Rattle.samples.specs.Binary32.{+0, finite}
@@ -52,38 +49,13 @@ pub finite-all : (k : ℕ) (xs : List Float) → all_finite xs ≡ all_from (λ 
 finite-all k [] = refl
 finite-all k (x ∷ xs) = finite-cons x xs ∙ ap (λ (b : Bool). finite x && b) (finite-all (suc k) xs)
 
--- a search passes over a part that is finite, and ends in one that is not
+-- a search passes over a part that is finite
 pub finite_skip : (k : ℕ) (xs ys : List Float) → all_finite xs ≡ true → first_from k (xs ++ ys) ≡ first_from (k + length xs) ys
 finite_skip k [] ys e = rw add-zero refl
 finite_skip k (x ∷ xs) ys e =
     let p = split_and (finite x) (all_finite xs) (sym (finite-cons x xs) ∙ e) in
     let q : suc k + length xs ≡ k + suc (length xs) = suc-add k (length xs) ∙ sym (add-suc k (length xs)) in
     ap (λ (b : Bool). cond b (first_from (suc k) (xs ++ ys)) (Some k)) p.0 ∙ finite_skip (suc k) xs ys p.1 ∙ ap (λ (m : ℕ). first_from m ys) q
-
-pub bad_within : (k : ℕ) (xs ys : List Float) → all_finite xs ≡ false → first_from k (xs ++ ys) ≡ first_from k xs
-bad_within k [] ys e = cc
-bad_within k (x ∷ xs) ys e = go (finite x) (sym (finite-cons x xs) ∙ e) (bad_within (suc k) xs ys)
-  where
-    go : (b : Bool) → (b && all_finite xs) ≡ false → (all_finite xs ≡ false → first_from (suc k) (xs ++ ys) ≡ first_from (suc k) xs)
-        → cond b (first_from (suc k) (xs ++ ys)) (Some k) ≡ cond b (first_from (suc k) xs) (Some k)
-    go true h later = later h
-    go false h later = refl
-
--- the first bad sample is the first that is not finite, its place counted on from k
-first_in : (k j : ℕ) (xs : List Float) → first_from (k + j) xs ≡ option_map (λ i. k + i) (position_from (λ x. not (finite x)) j xs)
-first_in k j [] = refl
-first_in k j (x ∷ xs) =
-    let next : suc (k + j) ≡ k + (j + 1) = omega arith in
-    go (finite x) (ap (λ n. first_from n xs) next ∙ first_in k (j + 1) xs)
-  where
-    go : (b : Bool) → first_from (suc (k + j)) xs ≡ option_map (λ i. k + i) (position_from (λ x. not (finite x)) (j + 1) xs)
-        → cond b (first_from (suc (k + j)) xs) (Some (k + j)) ≡ option_map (λ i. k + i) (cond (not b) (Some j) (position_from (λ x. not (finite x)) (j + 1) xs))
-    go true later = later
-    go false later = refl
-
-pub first_at : (k : ℕ) (xs : List Float) → first_from k xs ≡ option_map (λ i. k + i) (position (λ x. not (finite x)) xs)
-first_at k xs =
-    ap (λ n. first_from n xs) (sym (add-zero k)) ∙ first_in k 0 xs ∙ ap (option_map (λ i. k + i)) (sym (position_from-zero (λ x. not (finite x)) xs))
 
 and_true : (a : Bool) → a ≡ (a && true)
 and_true true = refl

@@ -22,14 +22,24 @@ pub fn first_bad(rows: &[f32], row: usize) -> Option<usize>
     } else {
         row.max(SHORT_ROW)
     };
-    let mut start = 0;
-    for part in rows.chunks(len) {
-        if !row_finite(part) {
-            return part.iter().position(|x| !is_finite(*x)).map(|i| start + i);
+    let mut found = None;
+    let mut i = 0;
+    // Kept (3): two loops left by a label are the form that is named for this place (docs/DECISIONS.md), and `i` counts through both.
+    'rows: for part in rows.chunks(len) {
+        if row_finite(part) {
+            i += part.len();
+            continue 'rows;
         }
-        start += part.len();
+        for x in part.iter() {
+            let bad = !is_finite(*x);
+            if bad {
+                found = Some(i);
+                break 'rows;
+            }
+            i += 1;
+        }
     }
-    None
+    found
 }
 
 // Whether every sample is finite, searched as `first_bad` does (R2.17, R4.14).
