@@ -51,7 +51,9 @@ fn put_column(f: usize, t: usize, y: Four, rows: &mut [f32])
     rows[t3] = y.v3;
 }
 
-// A tile's columns through the bands, in place.
+// A tile's columns through the bands, in place. It stays a function of its own in the program: where a caller takes it in together
+// with the making of its lanes, LLVM leaves these single floats.
+#[inline(never)]
 fn run(b: BandLanes, tile: &mut [Four]) -> BandLanes
     ensures { Played b result tile.old tile.new }
 {
