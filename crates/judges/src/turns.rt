@@ -1,5 +1,6 @@
 // Whose turn it is in a frame that is done as jobs: what is due of each call, by the marks of the jobs
-// that are done.
+// that are done. The marks are taken out of the state before they are lent, since a loan of a part of a state by value copies all of
+// it; but not in `judge_line`, where LLVM then makes more copies of its own.
 ghost use Rattle.std.specs.Prelude.{◌≡◌};
 ghost use Rattle.unit.specs.UnitState.{of_state};
 ghost use Rattle.unit.specs.Layout.{wall};
@@ -40,15 +41,17 @@ pub fn judge_open_tail(s: State, store: usize, work: usize) -> Answer
 pub fn judge_read(s: State, line: usize, store: usize, work: usize) -> Answer
     ensures { result ≡ judged_read wall (of_state s) line store work }
 {
+    let marks = s.marks;
     let lent = store_ok(s, store) & work_ok(s.frame, work);
-    judge(s, lent, line < LINES, s.busy & !marked(&s.marks, line))
+    judge(s, lent, line < LINES, s.busy & !marked(&marks, line))
 }
 
 // The lines read to be mixed (R2.27).
 pub fn judge_mix(s: State, work: usize) -> Answer
     ensures { result ≡ judged_mix wall (of_state s) work }
 {
-    let turn = all_read(&s.marks) & !marked(&s.marks, MIX_MARK);
+    let marks = s.marks;
+    let turn = all_read(&marks) & !marked(&marks, MIX_MARK);
     judge(s, work_ok(s.frame, work), true, s.busy & turn)
 }
 
@@ -65,7 +68,8 @@ pub fn judge_line(s: State, line: usize, work: usize) -> Answer
 pub fn judge_output(s: State, work: usize) -> Answer
     ensures { result ≡ judged_output wall (of_state s) work }
 {
-    let turn = all_read(&s.marks) & !marked(&s.marks, OUTPUT_MARK);
+    let marks = s.marks;
+    let turn = all_read(&marks) & !marked(&marks, OUTPUT_MARK);
     judge(s, work_ok(s.frame, work), true, s.busy & turn)
 }
 
@@ -73,8 +77,9 @@ pub fn judge_output(s: State, work: usize) -> Answer
 pub fn judge_close(s: State, store: usize, work: usize, output: usize) -> Answer
     ensures { result ≡ judged_close wall (of_state s) store work output }
 {
+    let marks = s.marks;
     let lent = lent_ok(s, store, work, output);
-    judge(s, lent, true, s.busy & all_done(&s.marks))
+    judge(s, lent, true, s.busy & all_done(&marks))
 }
 
 // A frame to be abandoned (R2.31).

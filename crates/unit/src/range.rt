@@ -1,4 +1,4 @@
-// When a state is in range.
+// When a state is in range. What is lent of a state is taken out of it first: a loan of a part of a state by value copies all of it.
 ghost use Rattle.std.specs.Prelude.{◌≡◌, ◌||◌, length};
 ghost use Rattle.unit.specs.UnitState.{of_state};
 ghost use Rattle.unit.specs.Layout.{wall};
@@ -14,7 +14,9 @@ use samples::{Frames, frame_ok, rate_ok};
 pub fn in_range(s: State) -> bool
     ensures { result ≡ in_range wall (of_state s) }
 {
-    let rings = cursors_in(&lengths(s), &s.lines) & cursors_in(&PASS_LENGTHS, &s.passes);
+    let lines = s.lines;
+    let passes = s.passes;
+    let rings = cursors_in(&lengths(s), &lines) & cursors_in(&PASS_LENGTHS, &passes);
     (rate_ok(s.rate) & frame_ok(s.frame)) & (rings & open_or_blank(s))
 }
 
@@ -29,7 +31,9 @@ fn open_or_blank(s: State) -> bool
 fn blank_open(s: State) -> bool
     ensures { result ≡ blank_open (of_state s) }
 {
-    !s.tail & (is_zero(s.next) & (unmarked(&s.marks) & blank_filters(&s.before)))
+    let marks = s.marks;
+    let before = s.before;
+    !s.tail & (is_zero(s.next) & (unmarked(&marks) & blank_filters(&before)))
 }
 
 // Whether both cursors of each ring are within it.
