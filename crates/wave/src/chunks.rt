@@ -114,7 +114,10 @@ fn supported(chunk: &[u8]) -> bool
 fn is_first(met: Option<WaveFormat>, chunk: &[u8]) -> bool
     ensures { result ≡ is_first met chunk.now }
 {
-    met.is_none() && begins(b"fmt ", chunk)
+    match met {
+        None => begins(b"fmt ", chunk),
+        Some(_) => false,
+    }
 }
 
 // Whether a chunk before the data is let by: the first format is judged (R11.6).

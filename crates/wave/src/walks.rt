@@ -25,7 +25,9 @@ fn data_read(met: Option<WaveFormat>, at: usize, size: usize) -> Reading
     requires met_ok { MetOk met }
     ensures { result ≡ data_read met at size }
 {
-    let format = met.ok_or(ReadRefusal::NoFormat(at))?;
+    let Some(format) = met else {
+        return Err(ReadRefusal::NoFormat(at));
+    };
     if size % block(format) != 0 {
         return Err(ReadRefusal::Unsupported(at));
     }
