@@ -7,6 +7,8 @@ use Prim.Native.Nat.{ℕ, ◌+◌, ◌-◌, ◌≤◌, ◌<◌}
 use lib.Ieee.{Float}
 use lib.ListN.{length, take, drop, length-append, length-drop, take-append-drop}
 use lib.Seq.{take_all, take-append-le, drop-append-le, take-append-add, drop-append-add, take-take, drop-drop, length-take-le}
+use borrow.Rule.Slice.PartMut.{put_mid}
+use Rattle.samples.proofs.Lists.{to_end}
 use Rattle.delay.specs.declared.Four.{Four}
 use Rattle.delay.specs.Ring.{rotl, read, write, read_each, write_each, list_of}
 use Rattle.delay.proofs.Views.{rotl_at, read_each_lem, write_each_lem}
@@ -61,6 +63,26 @@ module _ {A : Type 0} (ring : List A) (at : ℕ) (h : at < length ring) where
       ∙ rotl_at (take left xs) (drop left xs ++ rest) left (length-take-le left xs g)
       ∙ append_assoc (drop left xs) rest (take left xs)
       ∙ ap (λ (ys : List A). drop left xs ++ ys) (sym (drop-append-le (length xs - left) (take at ring) (take left xs) far))
+
+-- ---- the runs as the code has them: where one ends, it may say in its own words
+
+module _ {A : Type 0} (ring : List A) (at : ℕ) (h : at < length ring) where
+  -- read, the first into ys and the second into zs
+  pub two_read : (n e m : ℕ) (ys zs : List A) → length ring - at ≤ n → n ≤ length ring
+      → ys ≡ take e (drop at ring) → zs ≡ take m ring → e ≡ length ring - at → m ≡ n - (length ring - at)
+      → ys ++ zs ≡ read ring at n
+  two_read n e m ys zs g k ey ez ee em =
+      (λ i. (ey ∙ (λ j. take (ee j) (drop at ring))) i ++ (ez ∙ (λ j. take (em j) ring)) i) ∙ sym (read_across ring at h n g k)
+
+  -- stored, the first as ys over e samples and then the second as zs over m
+  pub two_written : (xs : List A) (d e m : ℕ) (ys zs : List A) → length ring - at ≤ length xs → length xs ≤ length ring
+      → ys ≡ take d xs → zs ≡ drop d xs → d ≡ length ring - at → e ≡ length ring - at → m ≡ length xs - (length ring - at)
+      → zs ++ drop m (put_mid at e ring ys) ≡ write ring at xs
+  two_written xs d e m ys zs g k ey ez ed ee em =
+      let left = length ring - at in
+      let first : put_mid at e ring ys ≡ take at ring ++ take left xs =
+      (λ i. put_mid at (ee i) ring ((ey ∙ (λ j. take (ed j) xs)) i)) ∙ (to_end at ring (omega arith)).1 (take left xs) in
+      (λ i. (ez ∙ (λ j. drop (ed j) xs)) i ++ drop (em i) (first i)) ∙ sym (write_across ring at h xs g k)
 
 -- ---- four samples that lie straight
 

@@ -1,5 +1,6 @@
 -- `mixer::sum_row` meets its contract. Assumes nothing.
 use native.Mathlib.Omega.{arith}
+use Rattle.std.proofs.Common.{rules}
 use mathlib.Core.Path.{◌≡◌, sym, ap, ◌∙◌}
 use lib.ListN.{length}
 use Rattle.samples.proofs.Turns.{lent}
@@ -10,7 +11,7 @@ pub loop-c-init : goal.loop-c-init
 loop-c-init c =
     let f = length c.args.sum.now in
     let copied = c.copy_from_slice.ensures.after in
-    copied ∙ first_row c.args.r f c.args.reads.now (sym (ap length copied) ∙ c.copy_from_slice.ensures.len)
+    search rules ∙ first_row c.args.r f c.args.reads.now (sym (ap length copied) ∙ c.copy_from_slice.ensures.len)
 
 pub loop-c-preserved : goal.loop-c-preserved
 loop-c-preserved c =

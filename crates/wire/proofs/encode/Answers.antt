@@ -10,7 +10,7 @@ use Rattle.wire.proofs.encode.Goals as goal
 pub loop-i-preserved : goal.loop-i-preserved
 loop-i-preserved c =
     let l = c.loop-i in
-    let four = c.copy_from_slice.ensures.after ∙ c.to_le_bytes-word.ensures ∙ to_le_bytes-bytes_of _ in
+    let four = (rw c.to_le_bytes-word.ensures at c.copy_from_slice.ensures.after) ∙ to_le_bytes-bytes_of c.bits.result in
     rw (four, c.bits.ensures, l.invariant) (encoded_more (take c.min-count.result c.args.xs.now) c.args.out.now l.i (omega arith))
 
 pub returns : goal.returns

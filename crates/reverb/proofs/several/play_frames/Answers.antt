@@ -1,7 +1,8 @@
 -- `reverb::several::play_frames` meets its contract. Assumes nothing.
-use Rattle.std.specs.Prelude.{Ok}
+use Rattle.std.specs.Prelude.{Ok, Err}
 use borrow.Rule.Slice.PartMut.{put_mid, mid_of}
 use native.Mathlib.Omega.{arith}
+use Rattle.std.proofs.Common.{rules}
 use mathlib.Core.Path.{◌≡◌, sym, ap, ◌∙◌}
 use mathlib.Core.Bool.{true}
 use mathlib.Core.List.{List, ◌++◌}
@@ -169,9 +170,10 @@ returns-in-Err c =
     let y = (goal.at.returns-in-Err c).After-next_frame in
     let at = l.done * f in
     let due = next_due y a.t (told (p y)).what.times in
+    let refused : c.next_frame.result ≡ Err bad = search rules in
     let all =
     in_all (goal.at.returns-in-Err c).At-loop-done
-    ∙ turn_refused a.s a.t a.coefficients.now c.frame_count-n.result l.done c.loop-done-test.true l.last l.count.0 (drop at a.input.now) (drop at l.output) l.store l.work (take at l.output) due bad (sym (gives y) ∙ c.in-Err.is) in record {
+    ∙ turn_refused a.s a.t a.coefficients.now c.frame_count-n.result l.done c.loop-done-test.true l.last l.count.0 (drop at a.input.now) (drop at l.output) l.store l.work (take at l.output) due bad (sym (gives y) ∙ refused) in record {
       value = c.several_by.ensures
           ∙ refused_outcome (of_state a.s) bad l.last l.count.0 l.done (take at l.output) (drop f (drop at l.output)) (x y).store (x y).work (x y).output ∙ ap frames_outcome_of (sym all);
       store_after = leaves_store y ∙ ap (λ (y : Several). y.ending.memory.store) (sym all);
@@ -190,15 +192,16 @@ loop-done-preserved c =
     let y = (goal.at.loop-done-preserved c).After-next_frame in
     let kept = c.next_frame.auto in
     let g = c.next_frame.ensures in
+    let given : c.next_frame.result ≡ Ok c.in-Ok.frame = search rules in
     let on : (l.done + 1) * f ≡ at + f = omega (arith, suc-mul l.done f) in
     let beside = put_beside at f l.output _ (kept.output ∙ part_long at f l.output (in_output (p y))) (omega (arith, in_output (p y))) in
     let front = ap (λ (o : List Float). take at l.output ++ o) (sym (leaves_output y)) ∙ sym beside.0 in
     let room = room_next f c.lengths-ls.result l.last c.filters_of-fs.result _ l.store l.work _ (length l.store) (length l.work) f l.invariant.0 in (
-      (λ i. room_ok wall f (rings_at c.lengths-ls.result (kept_of ((sym c.in-Ok.is ∙ g.value) i) l.last)) (kept.store i) (kept.work i) f) ∙ room,
+      (λ i. room_ok wall f (rings_at c.lengths-ls.result (kept_of ((sym given ∙ g.value) i) l.last)) (kept.store i) (kept.work i) f) ∙ room,
       λ t times count.
           rw on
           (l.invariant.1 t times count
-          ∙ turn-done a.s t cs n l.done c.loop-done-test.true l.last l.count.0 (drop at a.input.now) (drop at l.output) l.store l.work (take at l.output) (next_due y t times) c.in-Ok.frame (sym (gives y) ∙ c.in-Ok.is)
+          ∙ turn-done a.s t cs n l.done c.loop-done-test.true l.last l.count.0 (drop at a.input.now) (drop at l.output) l.store l.work (take at l.output) (next_due y t times) c.in-Ok.frame (sym (gives y) ∙ given)
           ∙ (λ i.
           ahead (l.done + 1) (front i)
           (left t cs f (n - (l.done + 1)) (record { unit = unit_stepped (of_state a.s) c.in-Ok.frame (count i); store = sym (leaves_store y) i; work = sym (leaves_work y) i }) (drop-drop f at a.input.now i) (sym beside.1 i)))),
