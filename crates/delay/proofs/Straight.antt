@@ -64,7 +64,7 @@ module _ {A : Type 0} (ring : List A) (at : ℕ) (h : at < length ring) where
       ∙ append_assoc (drop left xs) rest (take left xs)
       ∙ ap (λ (ys : List A). drop left xs ++ ys) (sym (drop-append-le (length xs - left) (take at ring) (take left xs) far))
 
--- ---- the runs as the code has them: where one ends, it may say in its own words
+-- ---- the two runs of a read and of a write, in whatever terms the code says where one ends
 
 module _ {A : Type 0} (ring : List A) (at : ℕ) (h : at < length ring) where
   -- read, the first into ys and the second into zs

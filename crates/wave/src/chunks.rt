@@ -110,7 +110,7 @@ fn supported(chunk: &[u8]) -> bool
     ((1 <= f.channels) & (f.channels <= MOST_CHANNELS)) & tag_ok(f.tag, width)
 }
 
-// Whether a chunk is the first format (R11.5).
+// Whether a chunk is the first format (R11.5). By `match`: asked by `is_none`, the format goes packed from chunk to chunk.
 fn is_first(met: Option<WaveFormat>, chunk: &[u8]) -> bool
     ensures { result ≡ is_first met chunk.now }
 {
